@@ -1,0 +1,12 @@
+pub mod Lists
+pub mod Board
+pub mod Rows
+pub mod Deciding
+pub mod Laws
+pub mod Ranks
+pub mod Ways
+pub mod Rounds
+pub mod Settling
+pub mod After
+pub mod Before
+pub mod Cells
