@@ -29,7 +29,7 @@ sooner-right None b j h = h
 sooner-right (Some a) None j h = absurd h
 sooner-right (Some a) (Some b) j h = omega arith
 
-sooner-of : (G : ℕ → Type 0) (a b : Option ℕ) → Of a G → Of b G → Of (sooner a b) G
+pub sooner-of : (G : ℕ → Type 0) (a b : Option ℕ) → Of a G → Of b G → Of (sooner a b) G
 sooner-of G None b g h = h
 sooner-of G (Some a) None g h = g
 sooner-of G (Some a) (Some b) g h = elim (decLe a b) [ yes l ↦ subst G (omega arith) g | no l ↦ subst G (omega arith) h ]

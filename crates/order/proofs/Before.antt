@@ -33,7 +33,7 @@ later-right None b j h = h
 later-right (Some a) None j h = absurd h
 later-right (Some a) (Some b) j h = omega arith
 
-later-of : (G : ℕ → Type 0) (a b : Option ℕ) → Of a G → Of b G → Of (later a b) G
+pub later-of : (G : ℕ → Type 0) (a b : Option ℕ) → Of a G → Of b G → Of (later a b) G
 later-of G None b g h = h
 later-of G (Some a) None g h = g
 later-of G (Some a) (Some b) g h = elim (decLe b a) [ yes l ↦ subst G (omega arith) g | no l ↦ subst G (omega arith) h ]

@@ -78,10 +78,11 @@ rounds pick f k s xs (suc m) = swept pick f k s (rounds pick f k s xs m) k
 abbrev pub Settled : Pick → Table → ℕ → ℕ → Row → ℕ → Type 0
 Settled pick f k s xs m = rounds pick f k s xs (suc m) ≡ rounds pick f k s xs m
 
--- rounds are run until one changes nothing, and c are run, that one counted
-abbrev pub Ran : Pick → Table → ℕ → ℕ → ℕ → ℕ → Type 0
-Ran pick f k s i c =
-    (xs : Row) × Begins f k s i xs × ((m : ℕ) × (c ≡ suc m) × Settled pick f k s xs m × ((l : ℕ) → l < m → Settled pick f k s xs l → ⊥))
+-- a question of s.i for t: rounds are run until one changes nothing; c are run, that one counted, and t's entry is then o
+abbrev pub Ran : Pick → Table → ℕ → ℕ → ℕ → ℕ → Option ℕ → ℕ → Type 0
+Ran pick f k s i t o c =
+    (xs : Row) × Begins f k s i xs
+    × ((m : ℕ) × (c ≡ suc m) × Settled pick f k s xs m × ((l : ℕ) → l < m → Settled pick f k s xs l → ⊥) × (o ≡ entry (rounds pick f k s xs m) t))
 
 -- the entry is the earliest move of t that u is before
 abbrev pub First-after : ℕ → Lengths → Edges → Move → ℕ → Option ℕ → Type 0

@@ -1,0 +1,4 @@
+pub mod Begun
+pub mod Relaxing
+pub mod Falls
+pub mod Turns

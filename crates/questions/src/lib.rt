@@ -1,0 +1,3 @@
+// The questions over any table: what has to follow a move, and what has to come before it, found by rounds.
+pub mod checks;
+pub mod rounds;
