@@ -1,5 +1,5 @@
 -- A round leaves a row as it is, or lowers its weight. So rounds come to an end, whatever the table answers.
-use mathlib.Core.Path.{_≡_, refl, ap, _∙_}
+use mathlib.Core.Path.{_≡_, refl, sym, ap, _∙_, subst}
 use mathlib.Core.Bool.{Bool, true, false, cond}
 use mathlib.Core.List.{[], _∷_}
 use mathlib.Core.Logic.{_⊎_, inl, inr, ⊎-elim}
@@ -7,7 +7,7 @@ use Prim.Native.Nat.{ℕ, zero, suc, _+_, _-_, _*_, _<_, _≤_}
 use native.Mathlib.Nat.{suc-mul}
 use native.Mathlib.Omega.{arith}
 use lib.Dec.{eqb}
-use lib.ListN.{set, length}
+use lib.ListN.{set, length, replicate}
 use Rattle.std.proofs.shelf.Tests.{cases-lt}
 use Rattle.std.specs.declared.option.Option.{Option}
 use Rattle.std.specs.declared.option.Option.the-variants.{Some, None}
@@ -59,6 +59,14 @@ under-pick After n (Some x) None g h = g
 under-pick Before n (Some x) None g h = g
 under-pick After n (Some x) (Some y) g h = omega arith
 under-pick Before n (Some x) (Some y) g h = omega arith
+
+pub under-by : (n : ℕ) {a b : Option ℕ} → a ≡ b → Under n b → Under n a
+under-by n e h = subst (Under n) (sym e) h
+
+pub places-none : (n l : ℕ) → Places n (replicate l None)
+places-none n zero y = tt
+places-none n (suc l) zero = tt
+places-none n (suc l) (suc y) = places-none n l y
 
 pub places-set : (n : ℕ) (xs : Row) (q : ℕ) (o : Option ℕ) → Under n o → Places n xs → Places n (set xs q o)
 places-set n [] q o u h y = h y

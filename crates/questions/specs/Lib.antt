@@ -1,2 +1,3 @@
 pub mod Checks
 pub mod Looking
+pub mod Asking

@@ -3,8 +3,8 @@ ghost use mathlib.Core.Path.{_≡_};
 ghost use Prim.Native.Nat.{_<_, _≤_};
 ghost use lib.ListN.{length};
 ghost use Rattle.std.specs.Orderings.{Decides};
-ghost use Rattle.order.specs.Rounds.{via, relaxed, Begins};
-ghost use Rattle.questions.specs.Looking.{look-of, pick-of};
+ghost use Rattle.order.specs.Rounds.{via, relaxed, Begins, Ran};
+ghost use Rattle.questions.specs.Looking.{look-of, pick-of, Under, Places, Comes-to};
 use tables::table::Table;
 
 // The two ways to ask: for what has to follow a move, and for what has to come before it.
@@ -85,13 +85,70 @@ fn unchanged(a: &[Option<u16>; 16], b: &[Option<u16>; 16]) -> bool
 
 // The row to start from: the entry of s is i, and each other shuttle has what is looked up from there.
 fn begin<T: Table>(table: &T, way: Way, k: u16, s: u16, i: u16) -> [Option<u16>; 16]
-    requires { ⌜ k ≤ 16 ⌝ }
+    requires few { ⌜ k ≤ 16 ⌝ }
+    requires place { ⌜ i < T·Table .meaning (now table) .moves ⌝ }
     ensures begins { λ r. ⌜ Begins (look-of way (T·Table .meaning (now (table .entry)))) k s i r ⌝ }
-    ensures wide { λ r. ⌜ length r ≡ 16 ⌝ }
+    ensures places { λ r. ⌜ Places (T·Table .meaning (now (table .entry)) .moves) r ⌝ }
 {
     let mut row: [Option<u16>; 16] = [None; 16];
     for r in 0..k {
-        row[r as usize] = if r == s { Some(i) } else { look(table, way, s, r, i) };
+        row[r as usize] = if r == s {
+            Some(i)
+        } else {
+            look(table, way, s, r, i)
+        };
     }
     row
+}
+
+// Runs rounds until one of them changes no entry: the last row, and how many rounds were run.
+fn settle<T: Table>(
+    table: &T,
+    way: Way,
+    k: u16,
+    s: u16,
+    first: [Option<u16>; 16],
+) -> ([Option<u16>; 16], u32)
+    requires few { ⌜ k ≤ 16 ⌝ }
+    requires places { ⌜ Places (T·Table .meaning (now table) .moves) first ⌝ }
+    ensures comes { λ r. ⌜ Comes-to (pick-of way) (look-of way (T·Table .meaning (now (table .entry)))) k s first (r .0) (r .1) ⌝ }
+    ensures places { λ r. ⌜ Places (T·Table .meaning (now (table .entry)) .moves) (r .0) ⌝ }
+{
+    let mut row = first;
+    let mut rounds: u32 = 0;
+    'rounds: loop {
+        let old = row;
+        for q in 0..k {
+            if q != s {
+                for r in 0..k {
+                    if r != q {
+                        relax(table, way, &mut row, q, r);
+                    }
+                }
+            }
+        }
+        rounds += 1;
+        if unchanged(&row, &old) {
+            break 'rounds (row, rounds);
+        }
+    }
+}
+
+// What the question of s.i finds on the shuttle t, and the rounds that it takes.
+pub(crate) fn search<T: Table>(
+    table: &T,
+    way: Way,
+    k: u16,
+    s: u16,
+    i: u16,
+    t: u16,
+) -> (Option<u16>, u32)
+    requires few { ⌜ k ≤ 16 ⌝ }
+    requires place { ⌜ i < T·Table .meaning (now table) .moves ⌝ }
+    requires onto { ⌜ t < k ⌝ }
+    ensures ran { λ r. ⌜ Ran (pick-of way) (look-of way (T·Table .meaning (now (table .entry)))) k s i t (r .0) (r .1) ⌝ }
+    ensures below { λ r. ⌜ Under (T·Table .meaning (now (table .entry)) .moves) (r .0) ⌝ }
+{
+    let (row, rounds) = settle(table, way, k, s, begin(table, way, k, s, i));
+    (row[t as usize], rounds)
 }
