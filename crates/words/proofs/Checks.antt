@@ -6,7 +6,7 @@ use native.Mathlib.Omega.{arith}
 use Rattle.std.specs.declared.result.Result.{Result}
 use Rattle.std.specs.declared.result.Result.the-variants.{Ok, Err}
 use Rattle.words.specs.declared.Refusal.{Refusal}
-use Rattle.words.specs.Refusals.{passed, refused, then, unless, refused-if}
+use Rattle.words.specs.Refusals.{passed, then, unless, refused-if, Left-alone}
 
 pub then-first : {X : Type 0} (a : Result Unit Refusal) (b : Result X Refusal) (x : X) → Ok x ≡ then a b → passed ≡ a
 then-first (Ok u) b x e = refl
@@ -31,3 +31,7 @@ unless-passed false n e = let z : _≡_ {A = ℕ} 0 1 = cc in absurd (omega arit
 pub refused-if-passed : (b : Bool) (n : ℕ) → passed ≡ refused-if b n → b ≡ false
 refused-if-passed true n e = let z : _≡_ {A = ℕ} 0 1 = cc in absurd (omega arith)
 refused-if-passed false n e = refl
+
+pub left-alone-done : {A : Type 0} (r : Result Unit Refusal) (old new : A) → passed ≡ r → Left-alone r old new
+left-alone-done (Ok x) old new e = tt
+left-alone-done (Err r) old new e = let z : _≡_ {A = ℕ} 0 1 = cc in absurd (omega arith)

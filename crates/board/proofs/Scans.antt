@@ -1,0 +1,56 @@
+-- What a board's table answers is right of the waits that stand.
+use Prim.Native.Nat.{ℕ, _<_}
+use mathlib.Core.Path.{_≡_, sym, ap, subst}
+use mathlib.Core.List.{[], _∷_}
+use native.Mathlib.Omega.{arith}
+use Rattle.std.specs.declared.option.Option.{Option}
+use Rattle.std.specs.declared.result.Result.the-variants.{Ok}
+use Rattle.words.proofs.Checks.{then-ok}
+use Rattle.tables.specs.Meaning.{least-of, last-of}
+use Rattle.tables.specs.Answers.{allowed, last-answer}
+use Rattle.tables.proofs.Extremes.{least-smallest, last-greatest}
+use Rattle.order.specs.Board.{Short}
+use Rattle.order.specs.Rounds.{Table, Right, Right-back}
+use Rattle.order.specs.Cells.{Keeps, Smallest, Greatest, Scans, Scans-back}
+use Rattle.order.proofs.Cells.{answers, answers-back, placing}
+use Rattle.order.proofs.Ways.{fits}
+use Rattle.questions.specs.declared.rounds.Way.the-variants.{After}
+use Rattle.questions.specs.Looking.{or-none, look-of}
+use Rattle.board.specs.Standing.{Limits, Waits, Sound, lengths, cells-of, meant}
+use Rattle.board.proofs.Puts.{allowed-ok}
+
+-- each cell holds the smallest j of all waits s.i -> t.j
+pub keeps-of : (k n : ℕ) (W : Waits) → Keeps k n W (cells-of W)
+keeps-of k n [] = λ s t i ls lt d li b x. x
+keeps-of k n (w ∷ W) = placing k n W (cells-of W) (keeps-of k n W) (w .0) (w .1)
+
+-- the last place that the table tells, or none
+abbrev pub last-look : Limits → Waits → Table
+last-look b W s t j = or-none (last-answer (meant b W) s t j)
+
+module _ (b : Limits) (W : Waits) where
+  scans : Scans (b .shuttles) (b .moves) (cells-of W) (look-of After (meant b W))
+  scans s t i ls lt d li =
+      subst (Smallest (b .moves) (cells-of W s t) i)
+      (sym (ap or-none (then-ok (allowed (b .shuttles) (b .moves) s t i) (Ok (least-of (cells-of W s t) i (b .moves))) (allowed-ok (b .shuttles) (b .moves) s t i ls lt d li))))
+      (least-smallest (b .moves) (cells-of W s t) i)
+
+  scans-back : Scans-back (b .shuttles) (b .moves) (cells-of W) (last-look b W)
+  scans-back s t j ls lt d lj =
+      subst (Greatest (b .moves) (cells-of W s t) j)
+      (sym (ap or-none (then-ok (allowed (b .shuttles) (b .moves) s t j) (Ok (last-of (cells-of W s t) j (b .moves))) (allowed-ok (b .shuttles) (b .moves) s t j ls lt d lj))))
+      (last-greatest (b .moves) (cells-of W s t) j)
+
+  short : Short (b .shuttles) (b .moves) (lengths b)
+  short s l = omega arith
+
+  module _ (h : Sound b W) where
+    pub right : Right (b .shuttles) (lengths b) W (look-of After (meant b W))
+    right =
+        answers (b .shuttles) (b .moves) (lengths b) W short (fits (b .shuttles) (lengths b) W (h .ordered .0) (h .ordered .1)) (cells-of W) (look-of After (meant b W))
+        (keeps-of (b .shuttles) (b .moves) W) scans
+
+    pub right-back : Right-back (b .shuttles) (lengths b) W (last-look b W)
+    right-back =
+        answers-back (b .shuttles) (b .moves) (lengths b) W short (fits (b .shuttles) (lengths b) W (h .ordered .0) (h .ordered .1)) (cells-of W) (last-look b W)
+        (keeps-of (b .shuttles) (b .moves) W) scans-back
