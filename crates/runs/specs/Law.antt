@@ -1,0 +1,87 @@
+-- The law on whole runs: what the calls on a board made just before answer, from the calls and their answers alone.
+use mathlib.Core.Path.{_≡_}
+use mathlib.Core.Logic.{_↔_}
+use mathlib.Core.Bool.{Bool}
+use mathlib.Core.List.{List, [], _∷_}
+use Prim.Native.Nat.{ℕ, _<_, _≤_}
+use lib.ListN.{length, getD, take}
+use Rattle.std.specs.declared.option.Option.{Option}
+use Rattle.std.specs.declared.result.Result.{Result}
+use Rattle.std.specs.declared.result.Result.the-variants.{Ok, Err}
+use Rattle.words.specs.declared.Refusal.{Refusal}
+use Rattle.words.specs.Codes.{move-of}
+use Rattle.tables.specs.Meaning.{Meaning}
+use Rattle.stores.specs.Holding.{Holding}
+use Rattle.order.specs.Board.{Move, On, Before, Ordered}
+use Rattle.questions.specs.declared.rounds.Way.the-variants.{After, Before as Ahead}
+use Rattle.board.specs.Standing.{Limits, Waits, Stands, lengths, without, Placed, Circled, remove-gives, Found, Tells, Always-earlier}
+use Rattle.runs.specs.declared.calls.Ask.{Ask}
+use Rattle.runs.specs.declared.calls.Ask.the-variants.{Place, Remove, Before as Is-before, FirstAfter, LastBefore}
+use Rattle.runs.specs.declared.calls.Answer.{Answer}
+use Rattle.runs.specs.declared.calls.Answer.the-variants.{Done, Refused, Truth, Found as Found-at}
+
+-- results as answers
+
+abbrev pub done-answer : Result Unit Refusal → Answer
+done-answer (Ok x) = Done
+done-answer (Err e) = Refused e
+
+abbrev pub truth-answer : Result Bool Refusal → ℕ → Answer
+truth-answer (Ok y) c = Truth y c
+truth-answer (Err e) c = Refused e
+
+abbrev pub found-answer : Result (Option ℕ) Refusal → ℕ → Answer
+found-answer (Ok o) c = Found-at o c
+found-answer (Err e) c = Refused e
+
+-- the first waits where the call is done, and else the second
+abbrev pub where-done : Answer → Waits → Waits → Waits
+where-done Done V W = V
+where-done (Refused e) V W = W
+where-done (Truth y c) V W = W
+where-done (Found-at o c) V W = W
+
+-- the waits that stand after a call, from the call and its answer alone: a placement done adds its wait, a removal done takes it out, nothing else changes them
+abbrev pub after-call : Waits → Ask → Answer → Waits
+after-call W (Place u v) a = where-done a ((move-of u, move-of v) ∷ W) W
+after-call W (Remove u v) a = where-done a (without W (move-of u) (move-of v)) W
+after-call W (Is-before u v) a = W
+after-call W (FirstAfter u t) a = W
+after-call W (LastBefore u t) a = W
+
+-- the answer to a call where the waits W stand
+abbrev pub Answered : Limits → Waits → Ask → Answer → Type 0
+Answered b W (Place u v) a = (r : Result Unit Refusal) × (a ≡ done-answer r) × Placed b W u v r × Circled b W u v r
+Answered b W (Remove u v) a = a ≡ done-answer (remove-gives b W u v)
+Answered b W (Is-before u v) a = (r : Result Bool Refusal) × (c : ℕ) × (a ≡ truth-answer r c) × Tells b W u v r c
+Answered b W (FirstAfter u t) a = (r : Result (Option ℕ) Refusal) × (c : ℕ) × (a ≡ found-answer r c) × Found After b W u t r c
+Answered b W (LastBefore u t) a = (r : Result (Option ℕ) Refusal) × (c : ℕ) × (a ≡ found-answer r c) × Found Ahead b W u t r c
+
+-- a call and its answer
+pub record Event : Type 0 where
+  pub ask : Ask
+  pub answer : Answer
+
+-- the waits that stand after some events, W standing at first
+abbrev pub standing-from : Waits → List Event → Waits
+standing-from W [] = W
+standing-from W (e ∷ es) = standing-from (after-call W (e .ask) (e .answer)) es
+
+-- on a board just made no wait stands
+abbrev pub standing : List Event → Waits
+standing es = standing-from [] es
+
+-- the waits have a running order, and one move is before a different one exactly where every running order has it earlier
+pub record Upright (b : Limits) (W : Waits) : Type 0 where
+  pub order : Ordered (b .shuttles) (lengths b) W
+  pub before : (u v : Move) → On (b .shuttles) (lengths b) u → On (b .shuttles) (lengths b) v → (u ≡ v → ⊥)
+      → Before (b .shuttles) (lengths b) W u v ↔ Always-earlier b W u v
+
+-- the law: each call is answered at the waits that stand just before it, and after the making and after every call these are upright
+pub record Law (b : Limits) (es : List Event) : Type 0 where
+  pub each : (i : ℕ) (x : Event) → i < length es → Answered b (standing (take i es)) (getD es i x .ask) (getD es i x .answer)
+  pub upright : (i : ℕ) → i ≤ length es → Upright b (standing (take i es))
+
+-- what one call says of all waits that stand on its board
+abbrev pub Step-keeps : Meaning → Holding → Ask → Answer → Meaning → Holding → Type 0
+Step-keeps m h q a m′ h′ = (b : Limits) (W : Waits) → Stands b W m h → Answered b W q a × Stands b (after-call W q a) m′ h′

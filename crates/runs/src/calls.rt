@@ -1,0 +1,20 @@
+// The calls of a board as values, and what they answer.
+use words::Refusal;
+
+#[derive(Clone, Copy)]
+pub enum Ask {
+    Place(u16, u16),
+    Remove(u16, u16),
+    Before(u16, u16),
+    FirstAfter(u16, u16),
+    LastBefore(u16, u16),
+}
+
+// What a call answers. A question that is taken adds its rounds; one that is refused has none.
+#[derive(Clone, Copy)]
+pub enum Answer {
+    Done,
+    Refused(Refusal),
+    Truth(bool, u32),
+    Found(Option<u16>, u32),
+}

@@ -1,0 +1,58 @@
+// One call on a board.
+ghost use mathlib.Core.Path.{_≡_};
+ghost use Rattle.runs.specs.Law.{done-answer, truth-answer, found-answer, Step-keeps};
+use crate::calls::Answer;
+use crate::calls::Ask;
+use board::board::Board;
+use stores::store::Store;
+use tables::table::Table;
+use words::Refusal;
+
+fn of_done(r: Result<(), Refusal>) -> Answer
+    ensures { λ a. ⌜ a ≡ done-answer r ⌝ }
+{
+    match r {
+        Ok(_) => Answer::Done,
+        Err(e) => Answer::Refused(e),
+    }
+}
+
+fn of_truth(r: Result<bool, Refusal>, rounds: u32) -> Answer
+    ensures { λ a. ⌜ a ≡ truth-answer r rounds ⌝ }
+{
+    match r {
+        Ok(yes) => Answer::Truth(yes, rounds),
+        Err(e) => Answer::Refused(e),
+    }
+}
+
+fn of_found(r: Result<Option<u16>, Refusal>, rounds: u32) -> Answer
+    ensures { λ a. ⌜ a ≡ found-answer r rounds ⌝ }
+{
+    match r {
+        Ok(o) => Answer::Found(o, rounds),
+        Err(e) => Answer::Refused(e),
+    }
+}
+
+// Makes the call on the board.
+pub fn step<T: Table, S: Store>(board: &mut Board<T, S>, ask: Ask) -> Answer
+    ensures { λ a. ⌜ Step-keeps (T·Table .meaning (now (board .entry) .table)) (S·Store .holding (now (board .entry) .store)) ask a (T·Table .meaning (now (board .exit) .table)) (S·Store .holding (now (board .exit) .store)) ⌝ }
+{
+    match ask {
+        Ask::Place(u, v) => of_done(board.place(u, v)),
+        Ask::Remove(u, v) => of_done(board.remove(u, v)),
+        Ask::Before(u, v) => {
+            let (truth, rounds) = board.before(u, v);
+            of_truth(truth, rounds)
+        }
+        Ask::FirstAfter(u, t) => {
+            let (found, rounds) = board.first_after(u, t);
+            of_found(found, rounds)
+        }
+        Ask::LastBefore(u, t) => {
+            let (found, rounds) = board.last_before(u, t);
+            of_found(found, rounds)
+        }
+    }
+}
