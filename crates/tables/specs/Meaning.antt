@@ -76,7 +76,7 @@ smaller None y = y
 smaller (Some x) None = Some x
 smaller (Some x) (Some y) = Some (cond (ltb y x) y x)
 
--- the smallest value of f at i, .., n - 1. `Smallest` of the order's specs says it without the recursion, and `scans` proves that this is it
+-- the smallest value of f at i, .., n - 1. `Smallest` of the order's specs says it without the recursion, and `least-smallest` proves that this is it
 abbrev pub least-of : (ℕ → Option ℕ) → ℕ → ℕ → Option ℕ
 least-of f i zero = None
 least-of f i (suc n) = cond (leb i n) (smaller (least-of f i n) (f n)) None
@@ -85,7 +85,7 @@ abbrev pub at-most : ℕ → Option ℕ → Bool
 at-most j None = false
 at-most j (Some x) = leb x j
 
--- the greatest place below n whose value is at most j; `Greatest` says it without the recursion
+-- the greatest place below n whose value is at most j; `Greatest` says it without the recursion, and `last-greatest` proves it
 abbrev pub last-of : (ℕ → Option ℕ) → ℕ → ℕ → Option ℕ
 last-of f j zero = None
 last-of f j (suc n) = cond (at-most j (f n)) (Some n) (last-of f j n)
