@@ -23,6 +23,7 @@ use Rattle.tables.specs.Answers.{allowed, valued, sizable, room, put-answer, p
 use Rattle.tables.specs.Checked.{Inside, inside-from, then-passed, unless-passed}
 use Rattle.tables.specs.Filled.{filled-le}
 use Rattle.tables.specs.Plain.{place, decoded, encoded, plain-cell, full-meaning, plain-meaning, Small, tidy-at, plain-check, plain-made, plain-used, wiped-front}
+use Rattle.tables.specs.declared.plain.Plain.{Plain}
 use Rattle.tables.specs.PlainLaws.{place-used, plain-same}
 use Rattle.tables.proofs.Allowed.{allowed-or, value-from}
 use Rattle.tables.proofs.Counting.{same-or, set-cell, filled-set, filled-ge, filled-none, filled-lt}
@@ -83,27 +84,36 @@ tidy-encoded k n s t i (Some j) few h f =
     let p = place-pair k n s t i h in
     rw (p .0, p .1, ne-eqb s t (h .apart), lt-ltb j n f, ne-eqb j 65535 (λ e. omega arith))
 
--- what the ghost fields of a plain table say, as they are owed together
-abbrev pub Kept : (k n u m : ℕ) → List ℕ → Type 0
-Kept k n u m cs =
+-- what a plain table's ghost fields say, of k shuttles with n moves, u used numbers, m filled cells and the buffer
+pub record Sound (k n u m : ℕ) (cs : List ℕ) : Type 0 where
+  pub small : Small k n
+  pub within : u ≤ length cs
+  pub whole : 1 < k → u ≡ k * k * n
+  pub tidy : (p : ℕ) → p < u → tidy-at k n p (getD cs p 0) ≡ true
+  pub counted : m ≡ filled-of k n (plain-cell k n cs)
+
+pub sound-of : (x : Plain) → Sound (x .lent .shuttles) (x .lent .moves) (x .lent .used) (x .lent .filled) (x .lent .cells .now)
+sound-of x = record { small = x .small; within = x .within; whole = x .whole; tidy = x .tidy; counted = x .counted }
+
+-- the same, as it is owed after a change
+pub owed : {k n u m : ℕ} {cs : List ℕ} → Sound k n u m cs →
     Small k n × ((u ≤ length cs) × ((1 < k → u ≡ k * k * n) × (((p : ℕ) → p < u → tidy-at k n p (getD cs p 0) ≡ true) × ((m ≡ filled-of k n (plain-cell k n cs)) × Unit {0}))))
+owed h = (h .small, (h .within, (h .whole, (h .tidy, (h .counted, tt)))))
 
--- the count stays far below what a 32-bit number can tell
-pub write-few : (k n m : ℕ) (cs : List ℕ) → Small k n → m ≡ filled-of k n (plain-cell k n cs) → m < 2147483648
-write-few k n m cs small counted =
-    let rows : k * (k - 1) ≤ 256 = mul-le k (k - 1) 16 16 (small .1) (omega arith) in
-    omega (arith, filled-le k n (plain-cell k n cs) (plain-same k n cs) (small .0), mul-le (k * (k - 1)) n 256 4096 rows (small .3))
+module _ {k n u m : ℕ} {cs : List ℕ} (sound : Sound k n u m cs) where
+  -- the count stays far below what a 32-bit number can tell
+  pub filled-few : m < 2147483648
+  filled-few =
+      let rows : k * (k - 1) ≤ 256 = mul-le k (k - 1) 16 16 (sound .small .1) (omega arith) in
+      omega (arith, filled-le k n (plain-cell k n cs) (plain-same k n cs) (sound .small .0), mul-le (k * (k - 1)) n 256 4096 rows (sound .small .3))
 
--- a write to one cell
-module _
-    (k n u m : ℕ) (cs : List ℕ) (s t i : ℕ) (small : Small k n) (within : u ≤ length cs) (whole : 1 < k → u ≡ k * k * n)
-    (tidy : (p : ℕ) → p < u → tidy-at k n p (getD cs p 0) ≡ true) (counted : m ≡ filled-of k n (plain-cell k n cs)) (ok : passed ≡ allowed k n s t i)
-  where
+  -- a write to one cell
+  module _ (s t i : ℕ) (ok : passed ≡ allowed k n s t i) where
     inside : Inside k n s t i
     inside = inside-from k n s t i (sym ok)
 
     pub place-inside : place k n s t i < length cs
-    place-inside = omega (arith, place-used k n u cs small whole tidy s t i inside)
+    place-inside = omega (arith, place-used k n u cs (sound .small) (sound .whole) (sound .tidy) s t i inside)
 
     cell-is : decoded (getD cs (place k n s t i) 0) ≡ plain-cell k n cs s t i
     cell-is = sym (plain-cell-at k n cs s t i (sym ok))
@@ -112,24 +122,24 @@ module _
     write-counted = omega (arith, ap one cell-is, filled-ge k n (plain-cell k n cs) s t i inside)
 
     write-cells : (v : Option ℕ) → Fit n v → plain-cell k n (set cs (place k n s t i) (encoded v)) ≡ set-cell (plain-cell k n cs) s t i v
-    write-cells v fit = plain-set k n cs s t i (encoded v) place-inside (sym ok) ∙ ap (set-cell (plain-cell k n cs) s t i) (decoded-encoded n v (small .3) fit)
+    write-cells v fit = plain-set k n cs s t i (encoded v) place-inside (sym ok) ∙ ap (set-cell (plain-cell k n cs) s t i) (decoded-encoded n v (sound .small .3) fit)
 
-    pub write-means : (v : Option ℕ) → Fit n v → plain-meaning k n (set cs (place k n s t i) (encoded v)) ≡ with-cell (plain-meaning k n cs) s t i v
+    write-means : (v : Option ℕ) → Fit n v → plain-meaning k n (set cs (place k n s t i) (encoded v)) ≡ with-cell (plain-meaning k n cs) s t i v
     write-means v fit = ap (full-meaning k n) (write-cells v fit)
 
     write-tidy : (v : Option ℕ) → Fit n v → (p : ℕ) → p < u → tidy-at k n p (getD (set cs (place k n s t i) (encoded v)) p 0) ≡ true
     write-tidy v fit p l =
         ⊎-elim
-        (λ (e : p ≡ place k n s t i). rw e (ap (tidy-at k n (place k n s t i)) (getD-set-same cs (place k n s t i) (encoded v) 0 place-inside) ∙ tidy-encoded k n s t i v (small .3) inside fit))
-        (λ ne. ap (tidy-at k n p) (getD-set-other cs (place k n s t i) p (encoded v) 0 ne) ∙ tidy p l)
+        (λ (e : p ≡ place k n s t i). rw e (ap (tidy-at k n (place k n s t i)) (getD-set-same cs (place k n s t i) (encoded v) 0 place-inside) ∙ tidy-encoded k n s t i v (sound .small .3) inside fit))
+        (λ ne. ap (tidy-at k n p) (getD-set-other cs (place k n s t i) p (encoded v) 0 ne) ∙ sound .tidy p l)
         (cases-eq p (place k n s t i))
 
-    pub write-kept : (v : Option ℕ) → Fit n v → (m′ : ℕ) → m′ + one (decoded (getD cs (place k n s t i) 0)) ≡ m + one v → Kept k n u m′ (set cs (place k n s t i) (encoded v))
-    write-kept v fit m′ more =
+    pub write-sound : (v : Option ℕ) → Fit n v → (m′ : ℕ) → m′ + one (decoded (getD cs (place k n s t i) 0)) ≡ m + one v → Sound k n u m′ (set cs (place k n s t i) (encoded v))
+    write-sound v fit m′ more =
         let f = plain-cell k n cs in
         let after : filled-of k n (plain-cell k n (set cs (place k n s t i) (encoded v))) ≡ filled-of k n (set-cell f s t i v) = ap (filled-of k n) (write-cells v fit) in
         let now′ : m′ ≡ filled-of k n (plain-cell k n (set cs (place k n s t i) (encoded v))) = omega (arith, after, ap one cell-is, filled-set k n f s t i v inside) in
-        (small, (simp length-set within, (whole, (write-tidy v fit, (now′, tt)))))
+        record { small = sound .small; within = simp length-set (sound .within); whole = sound .whole; tidy = write-tidy v fit; counted = now′ }
 
     room-left : (o : Option ℕ) → plain-cell k n cs s t i ≡ o → room (plain-meaning k n cs) o ≡ passed
     room-left (Some x) e = refl
@@ -167,10 +177,10 @@ module _ (k n u : ℕ) (cs : List ℕ) (small : Small k n) (within : u ≤ lengt
   pub wiped-means : plain-meaning k n (wiped-front u cs) ≡ full-meaning k n (λ s t i. None)
   wiped-means = ap (full-meaning k n) wiped-cells
 
-  pub wiped-kept : Kept k n u 0 (wiped-front u cs)
-  wiped-kept =
+  pub wiped-sound : Sound k n u 0 (wiped-front u cs)
+  wiped-sound =
       let long : u ≤ length (wiped-front u cs) = simp (length-append, length-replicate) (omega arith) in
-      (small, (long, (whole, (wiped-tidy, (sym (ap (filled-of k n) wiped-cells ∙ filled-none k n), tt)))))
+      record { small = small; within = long; whole = whole; tidy = wiped-tidy; counted = sym (ap (filled-of k n) wiped-cells ∙ filled-none k n) }
 
 sizable-small : (k n : ℕ) → sizable k n ≡ passed → Small k n
 unfolding sizable
@@ -184,9 +194,9 @@ check-passed k n l e =
 
 -- a table that is made
 module _ (k n : ℕ) (cs : List ℕ) where
-  pub made-kept : (r : Result Unit Refusal) → r ≡ plain-check k n (length cs) → Kept (if-done r 1 k) (if-done r 1 n) (if-done r 0 (k * k * n)) 0 (wiped-front (if-done r 0 (k * k * n)) cs)
-  made-kept (Ok u) e = let h = check-passed k n (length cs) (sym e) in wiped-kept k n (k * k * n) cs (h .0) (h .1) (λ _. refl)
-  made-kept (Err x) e = wiped-kept 1 1 0 cs (omega arith, omega arith, omega arith, omega arith) (omega arith) (λ l. absurd (omega arith))
+  pub made-sound : (r : Result Unit Refusal) → r ≡ plain-check k n (length cs) → Sound (if-done r 1 k) (if-done r 1 n) (if-done r 0 (k * k * n)) 0 (wiped-front (if-done r 0 (k * k * n)) cs)
+  made-sound (Ok u) e = let h = check-passed k n (length cs) (sym e) in wiped-sound k n (k * k * n) cs (h .0) (h .1) (λ _. refl)
+  made-sound (Err x) e = wiped-sound 1 1 0 cs (omega arith, omega arith, omega arith, omega arith) (omega arith) (λ l. absurd (omega arith))
 
   pub made-means : (r : Result Unit Refusal) → r ≡ plain-check k n (length cs) →
       plain-meaning (if-done r 1 k) (if-done r 1 n) (wiped-front (if-done r 0 (k * k * n)) cs) ≡ if-done r (full-meaning 1 1 (λ s t i. None)) (full-meaning k n (λ s t i. None))

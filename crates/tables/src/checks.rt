@@ -1,5 +1,7 @@
 // What every kind of table checks and compares.
 ghost use mathlib.Core.Path.{_≡_};
+ghost use lib.Dec.{leb};
+ghost use Rattle.words.specs.Refusals.{unless};
 ghost use Rattle.tables.specs.Meaning.{one, smaller as smaller-of, at-most};
 ghost use Rattle.tables.specs.Answers.{allowed, valued, sizable};
 use words::Refusal;
@@ -10,6 +12,17 @@ pub fn check_sizes(k: u16, n: u16) -> Result<(), Refusal>
 {
     if k == 0 || k > 16 || n == 0 || n > 4096 {
         Err(Refusal::BadSize)
+    } else {
+        Ok(())
+    }
+}
+
+// Whether a buffer is as long as it needs to be.
+pub fn check_length(needed: usize, given: usize) -> Result<(), Refusal>
+    ensures { λ r. ⌜ r ≡ unless (leb needed given) 9 ⌝ }
+{
+    if needed > given {
+        Err(Refusal::TooShort)
     } else {
         Ok(())
     }

@@ -11,6 +11,7 @@ ghost use Rattle.tables.specs.Plain.{place, decoded, encoded, plain-cell, plai
 ghost use Rattle.tables.specs.PlainLaws.{plain-lawful};
 use crate::checks::at_most;
 use crate::checks::check_cell;
+use crate::checks::check_length;
 use crate::checks::check_sizes;
 use crate::checks::check_value;
 use crate::checks::count_of;
@@ -47,21 +48,20 @@ fn wipe_front(cells: &mut [u16], used: usize)
     cells[..used].fill(encode(None));
 }
 
-// Whether a buffer of this length serves a plain table of these sizes.
-pub fn check_plain(shuttles: u16, moves: u16, length: usize) -> Result<(), Refusal>
-    ensures { λ r. ⌜ r ≡ plain-check shuttles moves length ⌝ }
+// Whether a buffer of so many numbers serves a plain table of these sizes.
+pub fn check_plain(shuttles: u16, moves: u16, given: usize) -> Result<(), Refusal>
+    ensures { λ r. ⌜ r ≡ plain-check shuttles moves given ⌝ }
 {
     check_sizes(shuttles, moves)?;
-    if shuttles as usize * shuttles as usize * moves as usize <= length {
-        Ok(())
-    } else {
-        Err(Refusal::TooShort)
-    }
+    check_length(
+        shuttles as usize * shuttles as usize * moves as usize,
+        given,
+    )
 }
 
 // The sizes, how many numbers of the buffer are used, how many of them stand for filled cells, and the buffer.
 #[derive(Drop)]
-pub struct Lent<'a> {
+struct Lent<'a> {
     shuttles: u16,
     moves: u16,
     used: usize,
