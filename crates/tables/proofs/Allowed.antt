@@ -1,15 +1,14 @@
 -- What it says that the numbers of a cell are taken; the way there is `inside-from` of specs/Checked.
 use Prim.Native.Nat.{ℕ, _<_}
-use mathlib.Core.Path.{_≡_, refl, sym}
+use mathlib.Core.Path.{_≡_, refl}
 use mathlib.Core.Logic.{_⊎_, inl, inr}
-use mathlib.Core.Bool.{Bool, true, false}
+use mathlib.Core.Bool.{false}
 use native.Mathlib.Omega.{arith}
 use Rattle.std.proofs.shelf.Ways.{tells}
 use Rattle.std.specs.Results.{isOk}
 use Rattle.std.specs.declared.result.Result.{Result}
 use Rattle.std.specs.declared.result.Result.the-variants.{Ok, Err}
 use Rattle.words.specs.Refusals.{passed}
-use Rattle.tables.specs.Meaning.{same-cell}
 use Rattle.tables.specs.Answers.{allowed, valued}
 use Rattle.tables.specs.Checked.{Inside, inside-from}
 

@@ -2,13 +2,12 @@
 use Prim.Native.Nat.{ℕ, _+_, _-_, _*_, _/_, _%_, _<_, _≤_}
 use native.Mathlib.Omega.{arith}
 use mathlib.Core.Path.{_≡_, refl, sym, ap, _∙_, fun-ext}
-use mathlib.Core.List.{List, _++_}
-use mathlib.Core.Logic.{_≢_, _⊎_, inl, inr, ⊎-elim}
-use mathlib.Core.Bool.{Bool, true, false, cond, _&&_}
-use lib.Dec.{ltb, leb, eqb}
+use mathlib.Core.List.{List}
+use mathlib.Core.Logic.{_≢_, _⊎_, ⊎-elim}
+use mathlib.Core.Bool.{true, false}
 use lib.ListN.{getD, set, length, replicate, drop}
 use Rattle.std.proofs.shelf.Bits.{div-mul-add, mod-mul-add, mul-le}
-use Rattle.std.proofs.shelf.Lists.{getD-replicate, getD-append-left, getD-set-same, getD-set-other, length-set, length-replicate, length-append, length-drop}
+use Rattle.std.proofs.shelf.Lists.{getD-replicate, getD-append-left, getD-set-same, getD-set-other, length-set, length-replicate, length-append}
 use Rattle.std.proofs.shelf.Ways.{tells}
 use Rattle.std.proofs.shelf.Tests.{lt-ltb, ne-eqb, cases-eq}
 use Rattle.std.specs.declared.option.Option.{Option}
@@ -17,12 +16,12 @@ use Rattle.std.specs.declared.result.Result.{Result}
 use Rattle.std.specs.declared.result.Result.the-variants.{Ok, Err}
 use Rattle.std.specs.Results.{isOk}
 use Rattle.words.specs.declared.Refusal.{Refusal}
-use Rattle.words.specs.Refusals.{passed, unless, if-done}
-use Rattle.tables.specs.Meaning.{Meaning, one, filled-of, with-cell, wiped, same-cell}
+use Rattle.words.specs.Refusals.{passed, if-done}
+use Rattle.tables.specs.Meaning.{one, filled-of, with-cell}
 use Rattle.tables.specs.Answers.{allowed, valued, sizable, room, put-answer, put-after, clear-after}
-use Rattle.tables.specs.Checked.{Inside, inside-from, then-passed, unless-passed}
+use Rattle.tables.specs.Checked.{Inside, inside-from, then-passed}
 use Rattle.tables.specs.Filled.{filled-le}
-use Rattle.tables.specs.Plain.{place, decoded, encoded, plain-cell, full-meaning, plain-meaning, Small, tidy-at, plain-check, plain-made, plain-used, wiped-front}
+use Rattle.tables.specs.Plain.{place, decoded, encoded, plain-cell, full-meaning, plain-meaning, Small, tidy-at, plain-check, wiped-front}
 use Rattle.tables.specs.declared.plain.Plain.{Plain}
 use Rattle.tables.specs.PlainLaws.{place-used, plain-same}
 use Rattle.tables.proofs.Allowed.{allowed-or, value-from}

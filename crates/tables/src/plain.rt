@@ -48,15 +48,19 @@ fn wipe_front(cells: &mut [u16], used: usize)
     cells[..used].fill(encode(None));
 }
 
+// How many numbers a table takes.
+fn numbers_of(shuttles: u16, moves: u16) -> usize
+    ensures { λ r. ⌜ r ≡ shuttles * shuttles * moves ⌝ }
+{
+    shuttles as usize * shuttles as usize * moves as usize
+}
+
 // Whether a buffer of so many numbers serves a plain table of these sizes.
 pub fn check_plain(shuttles: u16, moves: u16, given: usize) -> Result<(), Refusal>
     ensures { λ r. ⌜ r ≡ plain-check shuttles moves given ⌝ }
 {
     check_sizes(shuttles, moves)?;
-    check_length(
-        shuttles as usize * shuttles as usize * moves as usize,
-        given,
-    )
+    check_length(numbers_of(shuttles, moves), given)
 }
 
 // The sizes, how many numbers of the buffer are used, how many of them stand for filled cells, and the buffer.
@@ -87,7 +91,7 @@ impl<'a> Lent<'a> {
                 cells,
             },
             Ok(()) => {
-                let used = shuttles as usize * shuttles as usize * moves as usize;
+                let used = numbers_of(shuttles, moves);
                 wipe_front(cells, used);
                 Lent {
                     shuttles,

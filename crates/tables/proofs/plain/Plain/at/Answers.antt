@@ -1,6 +1,4 @@
-use mathlib.Core.Path.{sym, ap, _∙_}
-use lib.ListN.{getD}
-use Rattle.tables.specs.Plain.{decoded}
+use mathlib.Core.Path.{sym}
 use Rattle.tables.proofs.Plains.{plain-cell-at}
 use Rattle.tables.proofs.plain.Plain.at.Needs as need
 
