@@ -1,1 +1,4 @@
 pub mod Extremes
+pub mod Allowed
+pub mod Counting
+pub mod Plains

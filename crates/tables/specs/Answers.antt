@@ -2,7 +2,8 @@
 -- both shuttles (1), that they differ (3), the place (2), the value (2), room for one more cell (8).
 use Prim.Native.Nat.{ℕ, _<_}
 use mathlib.Core.Path.{_≡_}
-use lib.Dec.{ltb, eqb}
+use mathlib.Core.Bool.{_&&_}
+use lib.Dec.{ltb, leb, eqb}
 use Rattle.std.specs.declared.option.Option.{Option}
 use Rattle.std.specs.declared.option.Option.the-variants.{Some, None}
 use Rattle.std.specs.declared.result.Result.{Result}
@@ -18,6 +19,10 @@ allowed k n s t i = then (unless (ltb s k) 1) (then (unless (ltb t k) 1) (then (
 -- whether a value is taken
 unfoldable pub valued : (n j : ℕ) → Result Unit Refusal
 valued n j = unless (ltb j n) 2
+
+-- whether a table can have k shuttles with n moves each
+unfoldable pub sizable : (k n : ℕ) → Result Unit Refusal
+sizable k n = unless (ltb 0 k && (leb k 16 && (ltb 0 n && leb n 4096))) 11
 
 -- whether a cell can be filled: it is filled already, or there is room for one more
 abbrev pub room : Meaning → Option ℕ → Result Unit Refusal
