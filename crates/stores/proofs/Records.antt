@@ -69,11 +69,11 @@ module _ (records : List Wait) (n u v : ℕ) (l : n < length records) where
       (omega arith)
       (ap room (length-set records n (wait u v)))
 
--- one wait less: the last of the n + 1 records goes to the place p
+-- one wait less: the last of the records in use goes to the place p
 
-module _ (records : List Wait) (d : Wait) (n p : ℕ) (l : n < length records) (in′ : p ≤ n) (once : single (take (n + 1) records) ≡ true) where
-  one-more : take (n + 1) records ≡ take n records ++ getD records n d ∷ []
-  one-more = take-more records n d l
+module _ (records : List Wait) (d : Wait) (count n p : ℕ) (last : count ≡ n + 1) (fit : count ≤ length records) (in′ : p < count) (once : single (take count records) ≡ true) where
+  one-more : take count records ≡ take n records ++ getD records n d ∷ []
+  one-more = ap (λ m. take m records) last ∙ take-more records n d (omega arith)
 
   few : length (take n records) ≡ n
   few = length-take-le n records (omega arith)
@@ -96,7 +96,7 @@ module _ (records : List Wait) (d : Wait) (n p : ℕ) (l : n < length records) (
       (λ (more : n ≤ p). ap single (same (omega arith)) ∙ o .0)
       (cases-lt p n)
 
-  pub removed-held : (a b : ℕ) → held-in (take n (set records p (getD records n d))) a b ≡ (not (is-wait (getD records p d) a b) && held-in (take (n + 1) records) a b)
+  pub removed-held : (a b : ℕ) → held-in (take n (set records p (getD records n d))) a b ≡ (not (is-wait (getD records p d) a b) && held-in (take count records) a b)
   removed-held a b =
       rw one-more
       (⊎-elim
@@ -110,9 +110,9 @@ module _ (records : List Wait) (d : Wait) (n p : ℕ) (l : n < length records) (
           ∙ ap (λ q. not (is-wait (getD records q d) a b) && held-in (take n records ++ getD records n d ∷ []) a b) (sym e))
         (cases-lt p n))
 
-  pub removed-holding : (u v : ℕ) → getD records p d ≡ wait u v → loose-holding (set records p (getD records n d)) n ≡ less-wait (loose-holding records (n + 1)) u v
+  pub removed-holding : (u v : ℕ) → getD records p d ≡ wait u v → loose-holding (set records p (getD records n d)) n ≡ less-wait (loose-holding records count) u v
   removed-holding u v at =
-      same-holding _ _ n (pred (n + 1)) _ _
-      (λ a b. removed-held a b ∙ ap (λ x. not (is-wait x a b) && held-in (take (n + 1) records) a b) at)
+      same-holding _ _ n (pred count) _ _
+      (λ a b. removed-held a b ∙ ap (λ x. not (is-wait x a b) && held-in (take count records) a b) at)
       (omega arith)
       (ap room (length-set records p (getD records n d)))
