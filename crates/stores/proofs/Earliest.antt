@@ -21,9 +21,9 @@ module _ (f g h : Holding) (u t : ℕ) (both : (v : ℕ) → h .held u v ≡ (f 
   earliest-either (Some x) (Some y) p q =
       ⊎-elim
       (λ (less : x < y).
-        let m : min x y ≡ x = omega arith in
-        rw m (p .0, p .1, both (code-of t x) ∙ or-left _ _ (p .2), λ b l. both (code-of t b) ∙ or-from _ _ (p .3 b l) (q .3 b (omega arith))))
+      let m : min x y ≡ x = omega arith in
+      rw m (p .0, p .1, both (code-of t x) ∙ or-left _ _ (p .2), λ b l. both (code-of t b) ∙ or-from _ _ (p .3 b l) (q .3 b (omega arith))))
       (λ (more : y ≤ x).
-        let m : min x y ≡ y = omega arith in
-        rw m (q .0, q .1, both (code-of t y) ∙ or-right _ _ (q .2), λ b l. both (code-of t b) ∙ or-from _ _ (p .3 b (omega arith)) (q .3 b l)))
+      let m : min x y ≡ y = omega arith in
+      rw m (q .0, q .1, both (code-of t y) ∙ or-right _ _ (q .2), λ b l. both (code-of t b) ∙ or-from _ _ (p .3 b (omega arith)) (q .3 b l)))
       (cases-lt x y)

@@ -100,15 +100,15 @@ module _ (records : List Wait) (d : Wait) (count n p : ℕ) (last : count ≡ n 
   removed-held a b =
       rw one-more
       (⊎-elim
-        (λ (less : p < n).
-          ap (λ k. held-in k a b) (kept less)
-          ∙ held-moved (take n records) (getD records n d) once-more a b p d (omega (arith, few))
-          ∙ ap (λ x. not (is-wait x a b) && held-in (take n records ++ getD records n d ∷ []) a b) (getD-take n records p d less))
-        (λ (more : n ≤ p).
-          let e : p ≡ n = omega arith in
-          ap (λ k. held-in k a b) (same e) ∙ held-dropped (take n records) (getD records n d) once-more a b
-          ∙ ap (λ q. not (is-wait (getD records q d) a b) && held-in (take n records ++ getD records n d ∷ []) a b) (sym e))
-        (cases-lt p n))
+      (λ (less : p < n).
+      ap (λ k. held-in k a b) (kept less)
+      ∙ held-moved (take n records) (getD records n d) once-more a b p d (omega (arith, few))
+      ∙ ap (λ x. not (is-wait x a b) && held-in (take n records ++ getD records n d ∷ []) a b) (getD-take n records p d less))
+      (λ (more : n ≤ p).
+      let e : p ≡ n = omega arith in
+      ap (λ k. held-in k a b) (same e) ∙ held-dropped (take n records) (getD records n d) once-more a b
+      ∙ ap (λ q. not (is-wait (getD records q d) a b) && held-in (take n records ++ getD records n d ∷ []) a b) (sym e))
+      (cases-lt p n))
 
   pub removed-holding : (u v : ℕ) → getD records p d ≡ wait u v → loose-holding (set records p (getD records n d)) n ≡ less-wait (loose-holding records count) u v
   removed-holding u v at =

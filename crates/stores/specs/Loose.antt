@@ -1,17 +1,20 @@
 -- What a loose list means: the waits in the first `count` of its records, in any order.
-use Prim.Native.Nat.{ℕ, zero, suc, _<_, _≤_, min}
+use Prim.Native.Nat.{ℕ, _-_, _<_, _≤_, min}
 use native.Mathlib.Omega.{arith}
 use mathlib.Core.Path.{_≡_, refl, sym, ap, _∙_, subst}
 use mathlib.Core.Logic.{_↔_, _⊎_, inl, inr}
 use mathlib.Core.Bool.{Bool, true, false, not, _&&_, _||_}
 use mathlib.Core.List.{List, [], _∷_, map}
-use lib.ListN.{length, take}
+use lib.ListN.{length, take, getD, set}
 use Rattle.std.proofs.shelf.Lists.{length-map, length-take-le}
 use Rattle.std.proofs.shelf.Tests.{eqb-true, eq-eqb, and-parts, and-from, or-cases, or-left, or-right, not-true, both-ways}
+use Rattle.std.specs.declared.result.Result.{Result}
+use Rattle.std.specs.declared.result.Result.the-variants.{Ok, Err}
+use Rattle.words.specs.declared.Refusal.{Refusal}
 use Rattle.stores.specs.declared.wait.Wait.{Wait}
 use Rattle.order.specs.Lists.{In, Earlier}
 use Rattle.stores.specs.Holding.{Holding, Lawful}
-use Rattle.stores.specs.Waits.{held-in, is-wait, single}
+use Rattle.stores.specs.Waits.{wait, is-wait, held-in, single}
 
 -- how many waits a list over so many records can hold
 abbrev pub room : ℕ → ℕ
@@ -20,11 +23,16 @@ room n = min n 65535
 abbrev pub loose-holding : List Wait → (count : ℕ) → Holding
 loose-holding records count = record { held = held-in (take count records); count = count; capacity = room (length records) }
 
--- holds nothing
+-- an empty list over so many records
 abbrev pub empty-holding : ℕ → Holding
 empty-holding n = record { held = λ a b. false; count = 0; capacity = room n }
 
--- lawful
+-- the records after `remove`: the last of the n in use stands in the place of the wait from u to v, and the others are as they were
+abbrev pub Closed-up : Result Unit Refusal → List Wait → (n u v : ℕ) → List Wait → Type 0
+Closed-up (Ok x) old n u v new = (p : ℕ) × (p < n) × (getD old p (wait 0 0) ≡ wait u v) × (new ≡ set old p (getD old (n - 1) (wait 0 0)))
+Closed-up (Err e) old n u v new = new ≡ old
+
+-- a loose list is lawful
 
 abbrev pair-of : Wait → ℕ × ℕ
 pair-of w = (w .first, w .second)

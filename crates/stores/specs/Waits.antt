@@ -3,7 +3,7 @@ use Prim.Native.Nat.{ℕ, _<_}
 use mathlib.Core.Path.{_≡_}
 use mathlib.Core.Bool.{Bool, true, false, not, _&&_, _||_}
 use mathlib.Core.List.{List, [], _∷_}
-use lib.ListN.{getD}
+use lib.ListN.{take, getD}
 use Rattle.std.specs.declared.option.Option.{Option}
 use Rattle.std.specs.declared.option.Option.the-variants.{Some, None}
 use Rattle.stores.specs.declared.wait.Wait.{Wait}
@@ -28,6 +28,6 @@ single [] = true
 single (w ∷ l) = not (held-in l (w .first) (w .second)) && single l
 
 -- where the wait from u to v stands among the first n records, or none where it does not
-abbrev pub Found : List Wait → (n u v : ℕ) → Bool → Option ℕ → Type 0
-Found records n u v held None = held ≡ false
-Found records n u v held (Some p) = (held ≡ true) × (p < n) × (getD records p (wait 0 0) ≡ wait u v)
+abbrev pub Found : List Wait → (n u v : ℕ) → Option ℕ → Type 0
+Found records n u v None = held-in (take n records) u v ≡ false
+Found records n u v (Some p) = (held-in (take n records) u v ≡ true) × (p < n) × (getD records p (wait 0 0) ≡ wait u v)

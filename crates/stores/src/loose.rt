@@ -8,15 +8,15 @@ ghost use denote.Ref.{now};
 ghost use Rattle.words.specs.Refusals.{Left-alone, if-done};
 ghost use Rattle.order.specs.Rounds.{sooner};
 ghost use Rattle.stores.specs.Holding.{Earliest, emptied, add-answer, add-after, remove-answer, remove-after};
-ghost use Rattle.stores.specs.Waits.{wait, is-wait, held-in, single, Found};
-ghost use Rattle.stores.specs.Loose.{room, loose-holding, empty-holding, loose-lawful};
-use words::Refusal;
+ghost use Rattle.stores.specs.Waits.{wait, is-wait, single, Found};
+ghost use Rattle.stores.specs.Loose.{room, loose-holding, empty-holding, Closed-up, loose-lawful};
 use crate::store::Store;
 use crate::wait::Wait;
+use words::Refusal;
 
 // The lent records, and how many of them are in use.
 #[derive(Drop)]
-pub struct Lent<'a> {
+struct Lent<'a> {
     count: u16,
     records: &'a mut [Wait],
 }
@@ -51,9 +51,7 @@ fn sooner(a: Option<u16>, b: Option<u16>) -> Option<u16>
     ensures { λ r. ⌜ r ≡ sooner a b ⌝ }
 {
     match (a, b) {
-        (Some(x), Some(y)) => {
-            if x < y { Some(x) } else { Some(y) }
-        }
+        (Some(x), Some(y)) => { if x < y { Some(x) } else { Some(y) } }
         (Some(x), None) => Some(x),
         (None, y) => y,
     }
@@ -88,12 +86,14 @@ impl<'a> Loose<'a> {
         ensures holding { λ r. ⌜ loose-holding (now (r .lent .records)) (r .lent .count) ≡ empty-holding (length (now (records .entry))) ⌝ }
         ensures records { λ r. ⌜ now (r .lent .records) ≡ now (records .entry) ⌝ }
     {
-        Loose { lent: Lent { count: 0, records } }
+        Loose {
+            lent: Lent { count: 0, records },
+        }
     }
 
     // Where the wait from `first` to `second` stands.
     fn find(&self, first: u16, second: u16) -> Option<usize>
-        ensures { λ r. ⌜ Found (now (now (self .entry) .lent .records)) (now (self .entry) .lent .count) first second (held-in (take (now (self .entry) .lent .count) (now (now (self .entry) .lent .records))) first second) r ⌝ }
+        ensures { λ r. ⌜ Found (now (now (self .entry) .lent .records)) (now (self .entry) .lent .count) first second r ⌝ }
     {
         for i in 0..self.lent.count as usize {
             if is_wait(self.lent.records[i], first, second) {
@@ -101,6 +101,20 @@ impl<'a> Loose<'a> {
             }
         }
         None
+    }
+
+    // The refusals of `add`, in their order.
+    fn check_add(&self, first: u16, second: u16) -> Result<(), Refusal>
+        ensures { λ r. ⌜ r ≡ add-answer (loose-holding (now (now (self .entry) .lent .records)) (now (self .entry) .lent .count)) first second ⌝ }
+    {
+        if self.has(first, second) {
+            return Err(Refusal::AlreadyHeld);
+        }
+        if self.lent.count < self.capacity() {
+            Ok(())
+        } else {
+            Err(Refusal::StoreFull)
+        }
     }
 }
 
@@ -111,7 +125,11 @@ pub impl<'a> Store for Loose<'a> as LooseStore {
 
     fn capacity(&self) -> u16 {
         let records = self.lent.records.len();
-        if records < 65535 { records as u16 } else { 65535 }
+        if records < 65535 {
+            records as u16
+        } else {
+            65535
+        }
     }
 
     fn count(&self) -> u16 {
@@ -143,17 +161,17 @@ pub impl<'a> Store for Loose<'a> as LooseStore {
         ensures refused { λ r. ⌜ Left-alone r (now (self .entry)) (now (self .exit)) ⌝ }
         ensures records { λ r. ⌜ now (now (self .exit) .lent .records) ≡ if-done r (now (now (self .entry) .lent .records)) (set (now (now (self .entry) .lent .records)) (now (self .entry) .lent .count) (wait first second)) ⌝ }
     {
-        if self.has(first, second) {
-            return Err(Refusal::AlreadyHeld);
-        }
-        if self.lent.count == self.capacity() {
-            return Err(Refusal::StoreFull);
-        }
+        self.check_add(first, second)?;
         self.lent.push(first, second);
         Ok(())
     }
 
-    fn remove(&mut self, first: u16, second: u16) -> Result<(), Refusal> {
+    fn remove(&mut self, first: u16, second: u16) -> Result<(), Refusal>
+        ensures answer { λ r. ⌜ r ≡ remove-answer (loose-holding (now (now (self .entry) .lent .records)) (now (self .entry) .lent .count)) first second ⌝ }
+        ensures after { λ r. ⌜ loose-holding (now (now (self .exit) .lent .records)) (now (self .exit) .lent .count) ≡ remove-after (loose-holding (now (now (self .entry) .lent .records)) (now (self .entry) .lent .count)) first second ⌝ }
+        ensures refused { λ r. ⌜ Left-alone r (now (self .entry)) (now (self .exit)) ⌝ }
+        ensures records { λ r. ⌜ Closed-up r (now (now (self .entry) .lent .records)) (now (self .entry) .lent .count) first second (now (now (self .exit) .lent .records)) ⌝ }
+    {
         match self.find(first, second) {
             None => Err(Refusal::NotHeld),
             Some(place) => {

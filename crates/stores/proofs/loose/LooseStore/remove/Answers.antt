@@ -12,9 +12,10 @@ pub ghost-self : need.ghost-self
 ghost-self c =
     let s = c .args .self .now in
     let found = c .in-Some .ensures tt in
-    simp (c .pull .ensures .count, c .pull .ensures .records, length-set)
-    (omega (arith, s .few),
-      (removed-single (s .lent .records .now) (wait 0 0) (s .lent .count) (s .lent .count - 1) _ (omega (arith, found .1)) (omega (arith, s .few)) (found .1) (s .once), tt))
+    simp (c .pull .ensures .count, c .pull .ensures .records, length-set) (
+      omega (arith, s .few),
+      (removed-single (s .lent .records .now) (wait 0 0) (s .lent .count) (s .lent .count - 1) _ (omega (arith, found .1)) (omega (arith, s .few)) (found .1) (s .once), tt),
+    )
 
 pub returns-in-Some : need.returns-in-Some
 returns-in-Some c =
@@ -24,8 +25,9 @@ returns-in-Some c =
     record {
       answer = remove-passed h _ _ (found .0);
       after =
-        simp (c .pull .ensures .count, c .pull .ensures .records)
-        (removed-holding (s .lent .records .now) (wait 0 0) (s .lent .count) (s .lent .count - 1) _ (omega (arith, found .1)) (omega (arith, s .few)) (found .1) (s .once) _ _ (found .2)
+          simp (c .pull .ensures .count, c .pull .ensures .records)
+          (removed-holding (s .lent .records .now) (wait 0 0) (s .lent .count) (s .lent .count - 1) _ (omega (arith, found .1)) (omega (arith, s .few)) (found .1) (s .once) _ _ (found .2)
           ∙ remove-done h _ _ (found .0));
       refused = tt;
+      records = (c .in-Some .place, found .1, found .2, c .pull .ensures .records);
     }
