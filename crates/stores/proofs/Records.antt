@@ -1,7 +1,6 @@
 -- The first records of a list that is not in order: what they hold after each step of the loose list's code.
-use Prim.Native.Nat.{ℕ, suc, pred, _+_, _-_, _<_, _≤_}
+use Prim.Native.Nat.{ℕ, suc, pred, _+_, _<_, _≤_}
 use native.Mathlib.Omega.{arith}
-use native.Mathlib.Numerals.{add-one}
 use mathlib.Core.Path.{_≡_, refl, sym, ap, _∙_, fun-ext}
 use mathlib.Core.Logic.{⊎-elim}
 use mathlib.Core.Bool.{Bool, true, false, not, _&&_, _||_}
@@ -9,13 +8,12 @@ use mathlib.Core.List.{List, [], _∷_, _++_}
 use lib.ListN.{length, take, getD, set}
 use lib.Seq.{take-set-lt}
 use Rattle.std.proofs.shelf.Lists.{length-set, length-take-le, take-more, take-more-set, take-set, getD-take}
-use Rattle.std.proofs.shelf.Tests.{cases-lt, and-parts, eqb-true, or-from}
+use Rattle.std.proofs.shelf.Tests.{cases-lt, and-parts, eqb-true}
 use Rattle.std.specs.declared.option.Option.{Option}
-use Rattle.std.specs.declared.option.Option.the-variants.{Some, None}
 use Rattle.order.specs.Rounds.{sooner}
 use Rattle.stores.specs.declared.wait.Wait.{Wait}
 use Rattle.stores.specs.Holding.{Holding, Earliest, with-wait, less-wait}
-use Rattle.stores.specs.Waits.{wait, is-wait, held-in, single, Found}
+use Rattle.stores.specs.Waits.{wait-of, is-wait, held-in, single}
 use Rattle.stores.specs.Loose.{room, loose-holding}
 use Rattle.stores.proofs.Waits.{is-wait-at, held-push, held-at, single-push, single-pop, single-set, held-moved, held-dropped}
 use Rattle.stores.proofs.Earliest.{earliest-either}
@@ -31,14 +29,14 @@ module _ (records : List Wait) (d : Wait) (i : ℕ) where
   held-more u v l = ap (λ k. held-in k u v) (take-more records i d l) ∙ held-push (take i records) (getD records i d) u v
 
   pub found-at : (n u v : ℕ) → i < n → n ≤ length records → is-wait (getD records i d) u v ≡ true
-      → (held-in (take n records) u v ≡ true) × (i < n) × (getD records i d ≡ wait u v)
+      → (held-in (take n records) u v ≡ true) × (i < n) × (getD records i d ≡ wait-of u v)
   found-at n u v l few e =
       let h = and-parts _ _ e in
       let p : getD records i d .first ≡ u = eqb-true _ _ (h .0) in
       let q : getD records i d .second ≡ v = eqb-true _ _ (h .1) in
       let in′ : i < length (take n records) = omega (arith, length-take-le n records few) in
       let at : held-in (take n records) (getD records i d .first) (getD records i d .second) ≡ true = rw (getD-take n records i d l) at (held-at (take n records) i d in′) in
-      let same : wait (getD records i d .first) (getD records i d .second) ≡ wait u v = cc in
+      let same : wait-of (getD records i d .first) (getD records i d .second) ≡ wait-of u v = cc in
       (is-wait-at (getD records i d) u v e (held-in (take n records)) ∙ at, l, same)
 
 -- the earliest place, with one record more
@@ -59,15 +57,15 @@ earliest-more records d i u t a b l p q =
 -- one wait more
 
 module _ (records : List Wait) (n u v : ℕ) (l : n < length records) where
-  pub added-single : single (take n records) ≡ true → held-in (take n records) u v ≡ false → single (take (n + 1) (set records n (wait u v))) ≡ true
-  added-single once new = ap single (take-more-set records n (wait u v) l) ∙ single-push (take n records) (wait u v) once new
+  pub added-single : single (take n records) ≡ true → held-in (take n records) u v ≡ false → single (take (n + 1) (set records n (wait-of u v))) ≡ true
+  added-single once new = ap single (take-more-set records n (wait-of u v) l) ∙ single-push (take n records) (wait-of u v) once new
 
-  pub added-holding : loose-holding (set records n (wait u v)) (n + 1) ≡ with-wait (loose-holding records n) u v
+  pub added-holding : loose-holding (set records n (wait-of u v)) (n + 1) ≡ with-wait (loose-holding records n) u v
   added-holding =
       same-holding _ _ (n + 1) (suc n) _ _
-      (λ a b. ap (λ k. held-in k a b) (take-more-set records n (wait u v) l) ∙ held-push (take n records) (wait u v) a b)
+      (λ a b. ap (λ k. held-in k a b) (take-more-set records n (wait-of u v) l) ∙ held-push (take n records) (wait-of u v) a b)
       (omega arith)
-      (ap room (length-set records n (wait u v)))
+      (ap room (length-set records n (wait-of u v)))
 
 -- one wait less: the last of the records in use goes to the place p
 
@@ -110,7 +108,7 @@ module _ (records : List Wait) (d : Wait) (count n p : ℕ) (last : count ≡ n 
       ∙ ap (λ q. not (is-wait (getD records q d) a b) && held-in (take n records ++ getD records n d ∷ []) a b) (sym e))
       (cases-lt p n))
 
-  pub removed-holding : (u v : ℕ) → getD records p d ≡ wait u v → loose-holding (set records p (getD records n d)) n ≡ less-wait (loose-holding records count) u v
+  pub removed-holding : (u v : ℕ) → getD records p d ≡ wait-of u v → loose-holding (set records p (getD records n d)) n ≡ less-wait (loose-holding records count) u v
   removed-holding u v at =
       same-holding _ _ n (pred count) _ _
       (λ a b. removed-held a b ∙ ap (λ x. not (is-wait x a b) && held-in (take count records) a b) at)

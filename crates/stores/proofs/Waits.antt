@@ -6,7 +6,7 @@ use mathlib.Core.Bool.{Bool, true, false, not, _&&_, _||_}
 use mathlib.Core.List.{List, [], _∷_, _++_}
 use lib.ListN.{length, getD, set}
 use Rattle.std.proofs.shelf.Ways.{tells}
-use Rattle.std.proofs.shelf.Tests.{and-parts, and-from, and-right, or-parts, or-from, not-true, not-from-false, eqb-true, eq-eqb, both-ways}
+use Rattle.std.proofs.shelf.Tests.{and-parts, and-from, and-right, or-parts, or-from, not-true, not-from-false, eqb-true, eq-eqb}
 use Rattle.stores.specs.declared.wait.Wait.{Wait}
 use Rattle.stores.specs.Waits.{is-wait, held-in, single}
 

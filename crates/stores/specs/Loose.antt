@@ -2,8 +2,8 @@
 use Prim.Native.Nat.{ℕ, _-_, _<_, _≤_, min}
 use native.Mathlib.Omega.{arith}
 use mathlib.Core.Path.{_≡_, refl, sym, ap, _∙_, subst}
-use mathlib.Core.Logic.{_↔_, _⊎_, inl, inr}
-use mathlib.Core.Bool.{Bool, true, false, not, _&&_, _||_}
+use mathlib.Core.Logic.{inl, inr}
+use mathlib.Core.Bool.{true, false}
 use mathlib.Core.List.{List, [], _∷_, map}
 use lib.ListN.{length, take, getD, set}
 use Rattle.std.proofs.shelf.Lists.{length-map, length-take-le}
@@ -14,7 +14,7 @@ use Rattle.words.specs.declared.Refusal.{Refusal}
 use Rattle.stores.specs.declared.wait.Wait.{Wait}
 use Rattle.order.specs.Lists.{In, Earlier}
 use Rattle.stores.specs.Holding.{Holding, Lawful}
-use Rattle.stores.specs.Waits.{wait, is-wait, held-in, single}
+use Rattle.stores.specs.Waits.{wait-of, is-wait, held-in, single}
 
 -- how many waits a list over so many records can hold
 abbrev pub room : ℕ → ℕ
@@ -29,7 +29,7 @@ empty-holding n = record { held = λ a b. false; count = 0; capacity = room n }
 
 -- the records after `remove`: the last of the n in use stands in the place of the wait from u to v, and the others are as they were
 abbrev pub Closed-up : Result Unit Refusal → List Wait → (n u v : ℕ) → List Wait → Type 0
-Closed-up (Ok x) old n u v new = (p : ℕ) × (p < n) × (getD old p (wait 0 0) ≡ wait u v) × (new ≡ set old p (getD old (n - 1) (wait 0 0)))
+Closed-up (Ok x) old n u v new = (p : ℕ) × (p < n) × (getD old p (wait-of 0 0) ≡ wait-of u v) × (new ≡ set old p (getD old (n - 1) (wait-of 0 0)))
 Closed-up (Err e) old n u v new = new ≡ old
 
 -- a loose list is lawful

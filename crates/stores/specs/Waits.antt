@@ -10,8 +10,8 @@ use Rattle.stores.specs.declared.wait.Wait.{Wait}
 use Rattle.stores.specs.Holding.{same-wait}
 
 -- the record of the wait from u to v
-abbrev pub wait : (u v : ℕ) → Wait
-wait u v = record { first = u; second = v }
+abbrev pub wait-of : (u v : ℕ) → Wait
+wait-of u v = record { first = u; second = v }
 
 -- whether the record is the wait from u to v
 abbrev pub is-wait : Wait → (u v : ℕ) → Bool
@@ -30,4 +30,4 @@ single (w ∷ l) = not (held-in l (w .first) (w .second)) && single l
 -- where the wait from u to v stands among the first n records, or none where it does not
 abbrev pub Found : List Wait → (n u v : ℕ) → Option ℕ → Type 0
 Found records n u v None = held-in (take n records) u v ≡ false
-Found records n u v (Some p) = (held-in (take n records) u v ≡ true) × (p < n) × (getD records p (wait 0 0) ≡ wait u v)
+Found records n u v (Some p) = (held-in (take n records) u v ≡ true) × (p < n) × (getD records p (wait-of 0 0) ≡ wait-of u v)

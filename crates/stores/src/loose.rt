@@ -8,19 +8,20 @@ ghost use denote.Ref.{now};
 ghost use Rattle.words.specs.Refusals.{Left-alone, if-done};
 ghost use Rattle.order.specs.Rounds.{sooner};
 ghost use Rattle.stores.specs.Holding.{Earliest, emptied, add-answer, add-after, remove-answer, remove-after};
-ghost use Rattle.stores.specs.Waits.{wait, is-wait, single, Found};
+ghost use Rattle.stores.specs.Waits.{wait-of, is-wait, single, Found};
 ghost use Rattle.stores.specs.Loose.{room, loose-holding, empty-holding, Closed-up, loose-lawful};
 use crate::store::Store;
 use crate::wait::Wait;
 use words::Refusal;
 
-// The lent records, and how many of them are in use.
+// The lent records, and how many of them are in use. They stand in a struct of their own, since one with ghost facts cannot lend them.
 #[derive(Drop)]
 struct Lent<'a> {
     count: u16,
     records: &'a mut [Wait],
 }
 
+// No more records are in use than there is room for, and no wait stands in them twice.
 #[derive(Drop)]
 pub struct Loose<'a> {
     lent: Lent<'a>,
@@ -62,7 +63,7 @@ impl<'a> Lent<'a> {
     fn push(&mut self, first: u16, second: u16)
         requires { ⌜ now self .count < room (length (now (now self .records))) ⌝ }
         ensures count { λ _. ⌜ now (self .exit) .count ≡ now (self .entry) .count + 1 ⌝ }
-        ensures records { λ _. ⌜ now (now (self .exit) .records) ≡ set (now (now (self .entry) .records)) (now (self .entry) .count) (wait first second) ⌝ }
+        ensures records { λ _. ⌜ now (now (self .exit) .records) ≡ set (now (now (self .entry) .records)) (now (self .entry) .count) (wait-of first second) ⌝ }
     {
         self.records[self.count as usize] = Wait { first, second };
         self.count += 1;
@@ -73,7 +74,7 @@ impl<'a> Lent<'a> {
         requires used { ⌜ place < now self .count ⌝ }
         requires few { ⌜ now self .count ≤ length (now (now self .records)) ⌝ }
         ensures count { λ _. ⌜ now (self .exit) .count ≡ now (self .entry) .count - 1 ⌝ }
-        ensures records { λ _. ⌜ now (now (self .exit) .records) ≡ set (now (now (self .entry) .records)) place (getD (now (now (self .entry) .records)) (now (self .entry) .count - 1) (wait 0 0)) ⌝ }
+        ensures records { λ _. ⌜ now (now (self .exit) .records) ≡ set (now (now (self .entry) .records)) place (getD (now (now (self .entry) .records)) (now (self .entry) .count - 1) (wait-of 0 0)) ⌝ }
     {
         self.count -= 1;
         self.records[place] = self.records[self.count as usize];
@@ -159,7 +160,7 @@ pub impl<'a> Store for Loose<'a> as LooseStore {
         ensures answer { λ r. ⌜ r ≡ add-answer (loose-holding (now (now (self .entry) .lent .records)) (now (self .entry) .lent .count)) first second ⌝ }
         ensures after { λ r. ⌜ loose-holding (now (now (self .exit) .lent .records)) (now (self .exit) .lent .count) ≡ add-after (loose-holding (now (now (self .entry) .lent .records)) (now (self .entry) .lent .count)) first second ⌝ }
         ensures refused { λ r. ⌜ Left-alone r (now (self .entry)) (now (self .exit)) ⌝ }
-        ensures records { λ r. ⌜ now (now (self .exit) .lent .records) ≡ if-done r (now (now (self .entry) .lent .records)) (set (now (now (self .entry) .lent .records)) (now (self .entry) .lent .count) (wait first second)) ⌝ }
+        ensures records { λ r. ⌜ now (now (self .exit) .lent .records) ≡ if-done r (now (now (self .entry) .lent .records)) (set (now (now (self .entry) .lent .records)) (now (self .entry) .lent .count) (wait-of first second)) ⌝ }
     {
         self.check_add(first, second)?;
         self.lent.push(first, second);
