@@ -8,13 +8,14 @@ use mathlib.Core.List.{List, [], _∷_, _++_}
 use lib.ListN.{length, take, getD, set}
 use lib.Seq.{take-set-lt}
 use Rattle.std.proofs.shelf.Lists.{length-set, length-take-le, take-more, take-more-set, take-set, getD-take}
-use Rattle.std.proofs.shelf.Tests.{cases-lt, and-parts, eqb-true}
+use Rattle.std.proofs.shelf.Tests.{cases-lt}
 use Rattle.std.specs.declared.option.Option.{Option}
 use Rattle.order.specs.Rounds.{sooner}
 use Rattle.stores.specs.declared.wait.Wait.{Wait}
 use Rattle.stores.specs.Holding.{Holding, Earliest, with-wait, less-wait}
 use Rattle.stores.specs.Waits.{wait-of, is-wait, held-in, single}
 use Rattle.stores.specs.Loose.{room, loose-holding}
+use Rattle.stores.specs.LooseLaws.{is-wait-is}
 use Rattle.stores.proofs.Waits.{is-wait-at, held-push, held-at, single-push, single-pop, single-set, held-moved, held-dropped}
 use Rattle.stores.proofs.Earliest.{earliest-either}
 
@@ -31,13 +32,9 @@ module _ (records : List Wait) (d : Wait) (i : ℕ) where
   pub found-at : (n u v : ℕ) → i < n → n ≤ length records → is-wait (getD records i d) u v ≡ true
       → (held-in (take n records) u v ≡ true) × (i < n) × (getD records i d ≡ wait-of u v)
   found-at n u v l few e =
-      let h = and-parts _ _ e in
-      let p : getD records i d .first ≡ u = eqb-true _ _ (h .0) in
-      let q : getD records i d .second ≡ v = eqb-true _ _ (h .1) in
       let in′ : i < length (take n records) = omega (arith, length-take-le n records few) in
       let at : held-in (take n records) (getD records i d .first) (getD records i d .second) ≡ true = rw (getD-take n records i d l) at (held-at (take n records) i d in′) in
-      let same : wait-of (getD records i d .first) (getD records i d .second) ≡ wait-of u v = cc in
-      (is-wait-at (getD records i d) u v e (held-in (take n records)) ∙ at, l, same)
+      (is-wait-at (getD records i d) u v e (held-in (take n records)) ∙ at, l, is-wait-is (getD records i d) u v e)
 
 -- the earliest place, with one record more
 
@@ -94,23 +91,23 @@ module _ (records : List Wait) (d : Wait) (count n p : ℕ) (last : count ≡ n 
       (λ (more : n ≤ p). ap single (same (omega arith)) ∙ o .0)
       (cases-lt p n)
 
-  pub removed-held : (a b : ℕ) → held-in (take n (set records p (getD records n d))) a b ≡ (not (is-wait (getD records p d) a b) && held-in (take count records) a b)
-  removed-held a b =
-      rw one-more
-      (⊎-elim
+  gone : (a b : ℕ) → held-in (take n (set records p (getD records n d))) a b ≡ (not (is-wait (getD records p d) a b) && held-in (take n records ++ getD records n d ∷ []) a b)
+  gone a b =
+      ⊎-elim
       (λ (less : p < n).
       ap (λ k. held-in k a b) (kept less)
       ∙ held-moved (take n records) (getD records n d) once-more a b p d (omega (arith, few))
       ∙ ap (λ x. not (is-wait x a b) && held-in (take n records ++ getD records n d ∷ []) a b) (getD-take n records p d less))
       (λ (more : n ≤ p).
       let e : p ≡ n = omega arith in
-      ap (λ k. held-in k a b) (same e) ∙ held-dropped (take n records) (getD records n d) once-more a b
+      ap (λ k. held-in k a b) (same e)
+      ∙ held-dropped (take n records) (getD records n d) once-more a b
       ∙ ap (λ q. not (is-wait (getD records q d) a b) && held-in (take n records ++ getD records n d ∷ []) a b) (sym e))
-      (cases-lt p n))
+      (cases-lt p n)
 
   pub removed-holding : (u v : ℕ) → getD records p d ≡ wait-of u v → loose-holding (set records p (getD records n d)) n ≡ less-wait (loose-holding records count) u v
   removed-holding u v at =
       same-holding _ _ n (pred count) _ _
-      (λ a b. removed-held a b ∙ ap (λ x. not (is-wait x a b) && held-in (take count records) a b) at)
+      (λ a b. gone a b ∙ ap (λ k. not (is-wait (getD records p d) a b) && held-in k a b) (sym one-more) ∙ ap (λ x. not (is-wait x a b) && held-in (take count records) a b) at)
       (omega arith)
       (ap room (length-set records p (getD records n d)))

@@ -6,22 +6,19 @@ use mathlib.Core.Bool.{Bool, true, false, not, _&&_, _||_}
 use mathlib.Core.List.{List, [], _∷_, _++_}
 use lib.ListN.{length, getD, set}
 use Rattle.std.proofs.shelf.Ways.{tells}
-use Rattle.std.proofs.shelf.Tests.{and-parts, and-from, and-right, or-parts, or-from, not-true, not-from-false, eqb-true, eq-eqb}
+use Rattle.std.proofs.shelf.Tests.{and-parts, and-from, and-right, or-parts, or-from, not-true, not-from-false, eq-eqb}
 use Rattle.stores.specs.declared.wait.Wait.{Wait}
 use Rattle.stores.specs.Waits.{is-wait, held-in, single}
+use Rattle.stores.specs.LooseLaws.{is-wait-is}
 
 -- one record
 
 pub is-wait-own : (w : Wait) → is-wait w (w .first) (w .second) ≡ true
 is-wait-own w = and-from _ _ (eq-eqb (w .first) (w .first) refl) (eq-eqb (w .second) (w .second) refl)
 
--- a record that is the wait from a to b holds what any test says of a and b
+-- a test says the same of the wait from a to b and of the record that is that wait
 pub is-wait-at : (w : Wait) (a b : ℕ) → is-wait w a b ≡ true → (f : ℕ → ℕ → Bool) → f a b ≡ f (w .first) (w .second)
-is-wait-at w a b e f =
-    let h = and-parts _ _ e in
-    let p : w .first ≡ a = eqb-true _ _ (h .0) in
-    let q : w .second ≡ b = eqb-true _ _ (h .1) in
-    cc
+is-wait-at w a b e f = ap (λ x. f (x .first) (x .second)) (sym (is-wait-is w a b e))
 
 is-wait-turn : (w x : Wait) → is-wait w (x .first) (x .second) ≡ is-wait x (w .first) (w .second)
 is-wait-turn w x = grind (arith, tells)
