@@ -1,1 +1,4 @@
 pub mod Holding
+pub mod Waits
+pub mod Loose
+pub mod LooseLaws

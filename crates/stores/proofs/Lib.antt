@@ -1,0 +1,4 @@
+pub mod Waits
+pub mod Earliest
+pub mod Records
+pub mod Outcomes
