@@ -10,7 +10,7 @@ use Rattle.std.proofs.shelf.Tests.{cases-lt}
 use Rattle.board.specs.Standing.{Limits, Waits}
 use Rattle.runs.specs.Law.{Event, after-call, standing-from, standing, Answered, Upright, Law}
 
-standing-snoc : (W : Waits) (es : List Event) (e : Event) → standing-from W (es ++ e ∷ []) ≡ after-call (standing-from W es) (e .ask) (e .answer)
+pub standing-snoc : (W : Waits) (es : List Event) (e : Event) → standing-from W (es ++ e ∷ []) ≡ after-call (standing-from W es) (e .ask) (e .answer)
 standing-snoc W [] e = refl
 standing-snoc W (x ∷ es) e = standing-snoc (after-call W (x .ask) (x .answer)) es e
 
@@ -39,10 +39,10 @@ module _ (b : Limits) (es : List Event) (e : Event) (law : Law b es) (a : Answer
   law-more = record {
     each = λ i x l. ⊎-elim (λ (f : i < length es). front i x f) (λ (f : length es ≤ i). last i x (omega (arith, length-append es (e ∷ [])))) (cases-lt i (length es));
     upright = λ i l. ⊎-elim
-      (λ (f : i < suc (length es)). subst (λ ds. Upright b (standing ds)) (sym (law-front i (omega arith))) (law .upright i (omega arith)))
-      (λ (f : suc (length es) ≤ i).
+        (λ (f : i < suc (length es)). subst (λ ds. Upright b (standing ds)) (sym (law-front i (omega arith))) (law .upright i (omega arith)))
+        (λ (f : suc (length es) ≤ i).
         subst (Upright b) (sym (ap standing (take-all i (es ++ e ∷ []) (omega (arith, length-append es (e ∷ [])))) ∙ standing-snoc [] es e)) u)
-      (cases-lt i (suc (length es)));
+        (cases-lt i (suc (length es)));
   }
     where
       front : (i : ℕ) (x : Event) → i < length es → Answered b (standing (take i (es ++ e ∷ []))) (getD (es ++ e ∷ []) i x .ask) (getD (es ++ e ∷ []) i x .answer)

@@ -1,0 +1,5 @@
+pub mod Files
+pub mod Pouring
+pub mod Short
+pub mod Reporting
+pub mod Taken

@@ -1,0 +1,4 @@
+pub mod Text
+pub mod Edit
+pub mod Report
+pub mod Station
