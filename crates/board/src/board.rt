@@ -16,6 +16,7 @@ use tables::table::Table;
 use words::Refusal;
 
 // A board over a table and a store. Its calls take any numbers, and say what they do for all waits that stand on it; `make` lets none stand.
+// The public calls stand at the end; each hands on to a private one, at which its contract is proved.
 #[derive(Drop)]
 pub struct Board<T: Table, S: Store> {
     table: T,
@@ -23,8 +24,7 @@ pub struct Board<T: Table, S: Store> {
 }
 
 impl<T: Table, S: Store> Board<T, S> {
-    // A board without waits: its table and its store are wiped.
-    pub fn make(mut table: T, mut store: S) -> Board<T, S>
+    fn wiped(mut table: T, mut store: S) -> Board<T, S>
         ensures { λ r. ⌜ Stands (limits (T·Table .meaning table) (S·Store .holding store)) [] (T·Table .meaning (r .table)) (S·Store .holding (r .store)) ⌝ }
     {
         table.wipe();
@@ -62,7 +62,8 @@ impl<T: Table, S: Store> Board<T, S> {
         }
     }
 
-    fn try_place(&mut self, u: u16, v: u16) -> Result<(), Refusal>
+    // Writes a wait into the table and the store, if it is taken.
+    fn write_wait(&mut self, u: u16, v: u16) -> Result<(), Refusal>
         ensures does { λ r. ⌜ Placing (T·Table .meaning (now (self .entry) .table)) (S·Store .holding (now (self .entry) .store)) u v r (T·Table .meaning (now (self .exit) .table)) (S·Store .holding (now (self .exit) .store)) ⌝ }
         ensures refused { λ r. ⌜ Left-alone r (now (self .entry)) (now (self .exit)) ⌝ }
     {
@@ -71,7 +72,8 @@ impl<T: Table, S: Store> Board<T, S> {
         self.store.add(u, v)
     }
 
-    fn try_remove(&mut self, u: u16, v: u16) -> Result<(), Refusal>
+    // Takes a wait out of the store, if it is there, and lets its cell hold what is left.
+    fn erase_wait(&mut self, u: u16, v: u16) -> Result<(), Refusal>
         ensures does { λ r. ⌜ Removing (T·Table .meaning (now (self .entry) .table)) (S·Store .holding (now (self .entry) .store)) u v r (T·Table .meaning (now (self .exit) .table)) (S·Store .holding (now (self .exit) .store)) ⌝ }
         ensures refused { λ r. ⌜ Left-alone r (now (self .entry)) (now (self .exit)) ⌝ }
     {
@@ -81,6 +83,39 @@ impl<T: Table, S: Store> Board<T, S> {
         let left = self.store.earliest(u, v / 4096);
         set_cell(&mut self.table, u / 4096, v / 4096, u % 4096, left);
         Ok(())
+    }
+
+    fn try_place(&mut self, u: u16, v: u16) -> Result<(), Refusal>
+        ensures keeps { λ r. ⌜ Place-keeps (T·Table .meaning (now (self .entry) .table)) (S·Store .holding (now (self .entry) .store)) u v r (T·Table .meaning (now (self .exit) .table)) (S·Store .holding (now (self .exit) .store)) ⌝ }
+        ensures refused { λ r. ⌜ Left-alone r (now (self .entry)) (now (self .exit)) ⌝ }
+    {
+        self.write_wait(u, v)
+    }
+
+    fn try_remove(&mut self, u: u16, v: u16) -> Result<(), Refusal>
+        ensures keeps { λ r. ⌜ Remove-keeps (T·Table .meaning (now (self .entry) .table)) (S·Store .holding (now (self .entry) .store)) u v r (T·Table .meaning (now (self .exit) .table)) (S·Store .holding (now (self .exit) .store)) ⌝ }
+        ensures refused { λ r. ⌜ Left-alone r (now (self .entry)) (now (self .exit)) ⌝ }
+    {
+        self.erase_wait(u, v)
+    }
+
+    fn tell(&self, u: u16, v: u16) -> (Result<bool, Refusal>, u32)
+        ensures { λ r. ⌜ Tells-so (T·Table .meaning (now (self .entry) .table)) (S·Store .holding (now (self .entry) .store)) u v (r .0) (r .1) ⌝ }
+    {
+        precedes(&self.table, u, v)
+    }
+
+    fn find(&self, way: Way, u: u16, t: u16) -> (Result<Option<u16>, Refusal>, u32)
+        ensures { λ r. ⌜ Finds-so way (T·Table .meaning (now (self .entry) .table)) (S·Store .holding (now (self .entry) .store)) u t (r .0) (r .1) ⌝ }
+    {
+        nearest(&self.table, way, u, t)
+    }
+
+    // A board without waits: its table and its store are wiped, whatever they held.
+    pub fn make(table: T, store: S) -> Board<T, S>
+        ensures { λ r. ⌜ Stands (limits (T·Table .meaning table) (S·Store .holding store)) [] (T·Table .meaning (r .table)) (S·Store .holding (r .store)) ⌝ }
+    {
+        Board::wiped(table, store)
     }
 
     // Places the wait u -> v: u must be done before v.
@@ -103,20 +138,20 @@ impl<T: Table, S: Store> Board<T, S> {
     pub fn before(&self, u: u16, v: u16) -> (Result<bool, Refusal>, u32)
         ensures { λ r. ⌜ Tells-so (T·Table .meaning (now (self .entry) .table)) (S·Store .holding (now (self .entry) .store)) u v (r .0) (r .1) ⌝ }
     {
-        precedes(&self.table, u, v)
+        self.tell(u, v)
     }
 
     // The earliest move of t that has to follow u, and the rounds that it took.
     pub fn first_after(&self, u: u16, t: u16) -> (Result<Option<u16>, Refusal>, u32)
         ensures { λ r. ⌜ Finds-so Way.After (T·Table .meaning (now (self .entry) .table)) (S·Store .holding (now (self .entry) .store)) u t (r .0) (r .1) ⌝ }
     {
-        nearest(&self.table, Way::After, u, t)
+        self.find(Way::After, u, t)
     }
 
     // The latest move of t that has to come before u, and the rounds that it took.
     pub fn last_before(&self, u: u16, t: u16) -> (Result<Option<u16>, Refusal>, u32)
         ensures { λ r. ⌜ Finds-so Way.Before (T·Table .meaning (now (self .entry) .table)) (S·Store .holding (now (self .entry) .store)) u t (r .0) (r .1) ⌝ }
     {
-        nearest(&self.table, Way::Before, u, t)
+        self.find(Way::Before, u, t)
     }
 }

@@ -28,11 +28,11 @@ pub record Waiting (k n u v : ℕ) : Type 0 where
 
 pub wait-waiting : (k n u v : ℕ) → passed ≡ wait-check k n u v → Waiting k n u v
 wait-waiting k n u v e =
-    let b = then-second (move-check k n u) _ tt e in
+    let on = moves-on k n u v (then-first (moves-check k n u v) _ tt e) in
     record {
-      from = move-on k n u (then-first (move-check k n u) _ tt e);
-      to = move-on k n v (then-first (move-check k n v) _ tt b);
-      apart = eqb-false (u / 4096) (v / 4096) (refused-if-passed _ 3 (then-second (move-check k n v) _ tt b));
+      from = on .0;
+      to = on .1;
+      apart = eqb-false (u / 4096) (v / 4096) (refused-if-passed _ 3 (then-second (moves-check k n u v) _ tt e));
     }
 
 pub question-on : (k n u t : ℕ) → passed ≡ question-check k n u t → On k (λ _. n) (move-of u) × (t < k)

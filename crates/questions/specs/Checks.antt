@@ -18,7 +18,7 @@ moves-check k n u v = then (move-check k n u) (move-check k n v)
 
 -- whether u and v are moves of different shuttles
 abbrev pub wait-check : (k n u v : ℕ) → Result Unit Refusal
-wait-check k n u v = then (move-check k n u) (then (move-check k n v) (refused-if (eqb (u / 4096) (v / 4096)) 3))
+wait-check k n u v = then (moves-check k n u v) (refused-if (eqb (u / 4096) (v / 4096)) 3)
 
 -- whether u is a move and t a shuttle
 abbrev pub question-check : (k n u t : ℕ) → Result Unit Refusal

@@ -28,8 +28,7 @@ pub fn check_moves(k: u16, n: u16, u: u16, v: u16) -> Result<(), Refusal>
 pub fn check_wait(k: u16, n: u16, u: u16, v: u16) -> Result<(), Refusal>
     ensures { λ r. ⌜ r ≡ wait-check k n u v ⌝ }
 {
-    check_move(k, n, u)?;
-    check_move(k, n, v)?;
+    check_moves(k, n, u, v)?;
     if u / 4096 == v / 4096 {
         Err(Refusal::SameShuttle)
     } else {

@@ -1,6 +1,0 @@
-use Rattle.board.proofs.Keeps.{remove-keeps}
-use Rattle.board.proofs.board.Board.remove.Needs as need
-
-pub returns : need.returns
-returns g c =
-    record { keeps = remove-keeps _ (g .T·Table .lawful (c .args .self .now .table)) _ _ _ _ _ _ (c .try-remove .ensures .does); refused = c .try-remove .ensures .refused }
