@@ -9,7 +9,8 @@ use Rattle.std.specs.Results.{isOk}
 use Rattle.std.specs.declared.result.Result.{Result}
 use Rattle.std.specs.declared.result.Result.the-variants.{Ok, Err}
 use Rattle.words.specs.Refusals.{passed}
-use Rattle.tables.specs.Answers.{allowed, valued}
+use Rattle.tables.specs.Meaning.{Small}
+use Rattle.tables.specs.Answers.{allowed, valued, sizable}
 use Rattle.tables.specs.Checked.{Inside, inside-from}
 
 ok-or : {E : Type 0} (r : Result Unit E) → (isOk r ≡ false) ⊎ (r ≡ Ok tt)
@@ -32,3 +33,7 @@ allowed-at k n s t i p ok l =
 pub value-from : (n j : ℕ) → valued n j ≡ passed → j < n
 unfolding valued
 value-from n j e = grind (arith, tells)
+
+pub sizable-small : (k n : ℕ) → sizable k n ≡ passed → Small k n
+unfolding sizable
+sizable-small k n e = (grind (arith, tells), grind (arith, tells), grind (arith, tells), grind (arith, tells))

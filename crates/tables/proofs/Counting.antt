@@ -7,10 +7,12 @@ use mathlib.Core.Bool.{true, false, cond}
 use mathlib.Core.Logic.{_≢_, _⊎_, inl, inr, ⊎-elim}
 use lib.Dec.{eqb}
 use Rattle.std.proofs.shelf.Ways.{tells}
-use Rattle.std.proofs.shelf.Tests.{cases-lt, cases-bool, eq-eqb, ne-eqb}
+use Rattle.std.proofs.shelf.Tests.{cases-lt, cases-bool, lt-ltb, eq-eqb, ne-eqb}
 use Rattle.std.specs.declared.option.Option.{Option}
-use Rattle.std.specs.declared.option.Option.the-variants.{None}
-use Rattle.tables.specs.Meaning.{sum-below, one, filled-of, same-cell}
+use Rattle.std.specs.declared.option.Option.the-variants.{Some, None}
+use Rattle.words.specs.Refusals.{passed}
+use Rattle.tables.specs.Meaning.{sum-below, one, filled-of, same-cell, full-meaning}
+use Rattle.tables.specs.Answers.{room}
 use Rattle.tables.specs.Sums.{sum-mono, sum-same, sum-but}
 use Rattle.tables.specs.Checked.{Inside}
 use Rattle.tables.specs.Filled.{one-le, pred-mul, pair-le, row-le}
@@ -93,3 +95,11 @@ filled-lt k n f same s t i h e =
     let row : sum-below k (λ t. sum-below n (λ i. one (f s t i))) + 1 ≤ (k - 1) * n =
     omega (arith, sum-mono-at k (λ t. sum-below n (λ i. one (f s t i))) (λ t. cond (eqb s t) 0 n) t 1 (h .to-below) here (λ t _. pair-le k n f same some s t), sum-but k s n (h .from-below), pred-mul k n some) in
     omega (arith, sum-mono-at k (λ s. sum-below k (λ t. sum-below n (λ i. one (f s t i)))) (λ _. (k - 1) * n) s 1 (h .from-below) row (row-le k n f same some), sum-same k ((k - 1) * n), mul-assoc k (k - 1) n)
+
+-- so a table that can fill every cell refuses none for want of room
+pub room-full : (k n : ℕ) (f : ℕ → ℕ → ℕ → Option ℕ) → ((s i : ℕ) → f s s i ≡ None) → (s t i : ℕ) → Inside k n s t i → room (full-meaning k n f) (f s t i) ≡ passed
+room-full k n f same s t i h = go (f s t i) refl
+  where
+    go : (o : Option ℕ) → f s t i ≡ o → room (full-meaning k n f) o ≡ passed
+    go (Some x) e = refl
+    go None e = rw (lt-ltb _ _ (filled-lt k n f same s t i h e))

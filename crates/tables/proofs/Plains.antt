@@ -17,27 +17,27 @@ use Rattle.std.specs.declared.result.Result.the-variants.{Ok, Err}
 use Rattle.std.specs.Results.{isOk}
 use Rattle.words.specs.declared.Refusal.{Refusal}
 use Rattle.words.specs.Refusals.{passed, if-done}
-use Rattle.tables.specs.Meaning.{one, filled-of, with-cell}
-use Rattle.tables.specs.Answers.{allowed, valued, sizable, room, put-answer, put-after, clear-after}
+use Rattle.tables.specs.Meaning.{one, filled-of, with-cell, full-meaning, Small}
+use Rattle.tables.specs.Answers.{allowed, valued, sizable, put-answer, put-after, clear-after}
 use Rattle.tables.specs.Checked.{Inside, inside-from, then-passed}
 use Rattle.tables.specs.Filled.{filled-le}
-use Rattle.tables.specs.Plain.{place, decoded, encoded, plain-cell, full-meaning, plain-meaning, Small, tidy-at, plain-check, wiped-front}
+use Rattle.tables.specs.Plain.{place, decoded, encoded, plain-cell, plain-meaning, tidy-at, plain-check, wiped-front}
 use Rattle.tables.specs.declared.plain.Plain.{Plain}
-use Rattle.tables.specs.PlainLaws.{place-used, plain-same}
-use Rattle.tables.proofs.Allowed.{allowed-or, value-from}
-use Rattle.tables.proofs.Counting.{same-or, set-cell, filled-set, filled-ge, filled-none, filled-lt}
+use Rattle.tables.specs.PlainLaws.{place-lt, place-used, plain-same}
+use Rattle.tables.proofs.Allowed.{allowed-or, value-from, sizable-small}
+use Rattle.tables.proofs.Counting.{same-or, set-cell, filled-set, filled-ge, filled-none, room-full}
 
 -- the place tells the pair
-place-pair : (k n s t i : ℕ) → Inside k n s t i → (place k n s t i / n / k ≡ s) × (place k n s t i / n % k ≡ t)
-place-pair k n s t i h =
-    let row : place k n s t i / n ≡ s * k + t = div-mul-add (s * k + t) n i (h .place-below) in
-    (ap (λ x. x / k) row ∙ div-mul-add s k t (h .to-below), ap (λ x. x % k) row ∙ mod-mul-add s k t (h .to-below))
+place-pair : (k n s t i : ℕ) → t < k → i < n → (place k n s t i / n / k ≡ s) × (place k n s t i / n % k ≡ t)
+place-pair k n s t i lt li =
+    let row : place k n s t i / n ≡ s * k + t = div-mul-add (s * k + t) n i li in
+    (ap (λ x. x / k) row ∙ div-mul-add s k t lt, ap (λ x. x % k) row ∙ mod-mul-add s k t lt)
 
 -- the place tells the cell
 place-tells : (k n s t i a b c : ℕ) → Inside k n s t i → Inside k n a b c → place k n a b c ≡ place k n s t i → (a ≡ s) × (b ≡ t) × (c ≡ i)
 place-tells k n s t i a b c h g e =
-    let p = place-pair k n s t i h in
-    let q = place-pair k n a b c g in
+    let p = place-pair k n s t i (h .to-below) (h .place-below) in
+    let q = place-pair k n a b c (g .to-below) (g .place-below) in
     let same : c ≡ i = sym (mod-mul-add (a * k + b) n c (g .place-below)) ∙ ap (λ x. x % n) e ∙ mod-mul-add (s * k + t) n i (h .place-below) in
     (sym (q .0) ∙ ap (λ x. x / n / k) e ∙ p .0, sym (q .1) ∙ ap (λ x. x / n % k) e ∙ p .1, same)
 
@@ -80,8 +80,12 @@ decoded-encoded n (Some j) few h = grind (arith, tells)
 tidy-encoded : (k n s t i : ℕ) (v : Option ℕ) → n ≤ 4096 → Inside k n s t i → Fit n v → tidy-at k n (place k n s t i) (encoded v) ≡ true
 tidy-encoded k n s t i None few h f = refl
 tidy-encoded k n s t i (Some j) few h f =
-    let p = place-pair k n s t i h in
+    let p = place-pair k n s t i (h .to-below) (h .place-below) in
     rw (p .0, p .1, ne-eqb s t (h .apart), lt-ltb j n f, ne-eqb j 65535 (λ e. omega arith))
+
+-- between a shuttle and itself only 65,535 is tidy
+tidy-own : (k n p v s : ℕ) → p / n / k ≡ s → p / n % k ≡ s → tidy-at k n p v ≡ true → v ≡ 65535
+tidy-own k n p v s a b e = grind (arith, tells)
 
 -- what a plain table's ghost fields say, of k shuttles with n moves, u used numbers, m filled cells and the buffer
 pub record Sound (k n u m : ℕ) (cs : List ℕ) : Type 0 where
@@ -105,6 +109,12 @@ module _ {k n u m : ℕ} {cs : List ℕ} (sound : Sound k n u m cs) where
   filled-few =
       let rows : k * (k - 1) ≤ 256 = mul-le k (k - 1) 16 16 (sound .small .1) (omega arith) in
       omega (arith, filled-le k n (plain-cell k n cs) (plain-same k n cs) (sound .small .0), mul-le (k * (k - 1)) n 256 4096 rows (sound .small .3))
+
+  -- 65,535 stands between a shuttle and itself
+  pub own-empty : (s i : ℕ) → 1 < k → s < k → i < n → getD cs (place k n s s i) 0 ≡ 65535
+  own-empty s i two ls li =
+      let pair = place-pair k n s s i ls li in
+      tidy-own k n (place k n s s i) (getD cs (place k n s s i) 0) s (pair .0) (pair .1) (sound .tidy (place k n s s i) (omega (arith, sound .whole two, place-lt k n s s i ls ls li)))
 
   -- a write to one cell
   module _ (s t i : ℕ) (ok : passed ≡ allowed k n s t i) where
@@ -140,12 +150,8 @@ module _ {k n u m : ℕ} {cs : List ℕ} (sound : Sound k n u m cs) where
         let now′ : m′ ≡ filled-of k n (plain-cell k n (set cs (place k n s t i) (encoded v))) = omega (arith, after, ap one cell-is, filled-set k n f s t i v inside) in
         record { small = sound .small; within = simp length-set (sound .within); whole = sound .whole; tidy = write-tidy v fit; counted = now′ }
 
-    room-left : (o : Option ℕ) → plain-cell k n cs s t i ≡ o → room (plain-meaning k n cs) o ≡ passed
-    room-left (Some x) e = refl
-    room-left None e = rw (lt-ltb _ _ (filled-lt k n (plain-cell k n cs) (plain-same k n cs) s t i inside e))
-
     pub put-done : (j : ℕ) → passed ≡ valued n j → passed ≡ put-answer (plain-meaning k n cs) s t i j
-    put-done j fits = rw (← ok, ← fits) (sym (room-left (plain-cell k n cs s t i) refl))
+    put-done j fits = rw (← ok, ← fits) (sym (room-full k n (plain-cell k n cs) (plain-same k n cs) s t i inside))
 
     pub put-means : (j : ℕ) → passed ≡ valued n j → plain-meaning k n (set cs (place k n s t i) j) ≡ put-after (plain-meaning k n cs) s t i j
     put-means j fits = rw (← put-done j fits) (write-means (Some j) (value-from n j (sym fits)))
@@ -180,10 +186,6 @@ module _ (k n u : ℕ) (cs : List ℕ) (small : Small k n) (within : u ≤ lengt
   wiped-sound =
       let long : u ≤ length (wiped-front u cs) = simp (length-append, length-replicate) (omega arith) in
       record { small = small; within = long; whole = whole; tidy = wiped-tidy; counted = sym (ap (filled-of k n) wiped-cells ∙ filled-none k n) }
-
-sizable-small : (k n : ℕ) → sizable k n ≡ passed → Small k n
-unfolding sizable
-sizable-small k n e = (grind (arith, tells), grind (arith, tells), grind (arith, tells), grind (arith, tells))
 
 pub check-passed : (k n l : ℕ) → plain-check k n l ≡ passed → Small k n × (k * k * n ≤ l)
 unfolding plain-check

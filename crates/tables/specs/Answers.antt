@@ -1,13 +1,12 @@
 -- What each call of a table answers, and what the table means afterwards. The checks come in this order:
 -- both shuttles (1), that they differ (3), the place (2), the value (2), room for one more cell (8).
-use Prim.Native.Nat.{ℕ, _<_}
-use mathlib.Core.Path.{_≡_}
+use Prim.Native.Nat.{ℕ}
 use mathlib.Core.Bool.{_&&_}
 use lib.Dec.{ltb, leb, eqb}
 use Rattle.std.specs.declared.option.Option.{Option}
 use Rattle.std.specs.declared.option.Option.the-variants.{Some, None}
 use Rattle.std.specs.declared.result.Result.{Result}
-use Rattle.std.specs.declared.result.Result.the-variants.{Ok, Err}
+use Rattle.std.specs.declared.result.Result.the-variants.{Ok}
 use Rattle.words.specs.declared.Refusal.{Refusal}
 use Rattle.words.specs.Refusals.{passed, then, unless, refused-if, if-done}
 use Rattle.tables.specs.Meaning.{Meaning, filled, with-cell, least-of, last-of}

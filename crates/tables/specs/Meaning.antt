@@ -1,5 +1,5 @@
 -- What a table means: its sizes, and what each cell holds.
-use Prim.Native.Nat.{ℕ, zero, suc, _+_, _<_, _≤_}
+use Prim.Native.Nat.{ℕ, zero, suc, _+_, _-_, _*_, _<_, _≤_}
 use mathlib.Core.Path.{_≡_}
 use mathlib.Core.Bool.{Bool, false, cond, _&&_}
 use lib.Dec.{ltb, leb, eqb}
@@ -41,6 +41,14 @@ pub record Lawful (m : Meaning) : Type 0 where
   pub value-below : (s t i j : ℕ) → m .cell s t i ≡ Some j → j < m .moves
   pub cell-inside : (s t i j : ℕ) → m .cell s t i ≡ Some j → (s < m .shuttles) × (t < m .shuttles) × (s ≡ t → ⊥) × (i < m .moves)
   pub filled-le : filled m ≤ m .capacity
+
+-- a table that can fill every cell of two different shuttles
+abbrev pub full-meaning : (k n : ℕ) → (ℕ → ℕ → ℕ → Option ℕ) → Meaning
+full-meaning k n f = record { shuttles = k; moves = n; capacity = k * (k - 1) * n; cell = f }
+
+-- the numbers of shuttles and of moves that a table can have
+abbrev pub Small : (k n : ℕ) → Type 0
+Small k n = (0 < k) × (k ≤ 16) × (0 < n) × (n ≤ 4096)
 
 -- the sizes that a table tells
 pub record Sized (m : Meaning) (r : Sizes) : Type 0 where

@@ -1,5 +1,5 @@
 -- What the numbers of a plain table mean.
-use Prim.Native.Nat.{ℕ, _+_, _-_, _*_, _/_, _%_, _<_, _≤_}
+use Prim.Native.Nat.{ℕ, _+_, _*_, _/_, _%_}
 use mathlib.Core.Bool.{Bool, true, false, cond}
 use mathlib.Core.List.{List, _++_}
 use lib.Dec.{ltb, leb, eqb}
@@ -10,7 +10,7 @@ use Rattle.std.specs.declared.result.Result.{Result}
 use Rattle.std.specs.Results.{isOk}
 use Rattle.words.specs.declared.Refusal.{Refusal}
 use Rattle.words.specs.Refusals.{then, unless, if-done}
-use Rattle.tables.specs.Meaning.{Meaning}
+use Rattle.tables.specs.Meaning.{Meaning, full-meaning}
 use Rattle.tables.specs.Answers.{allowed, sizable}
 
 -- where the cell (s, t, i) lies
@@ -30,16 +30,8 @@ encoded (Some j) = j
 unfoldable pub plain-cell : (k n : ℕ) → List ℕ → (s t i : ℕ) → Option ℕ
 plain-cell k n cs s t i = cond (isOk (allowed k n s t i)) (decoded (getD cs (place k n s t i) 0)) None
 
--- a table that can fill every cell of two different shuttles
-abbrev pub full-meaning : (k n : ℕ) → (ℕ → ℕ → ℕ → Option ℕ) → Meaning
-full-meaning k n f = record { shuttles = k; moves = n; capacity = k * (k - 1) * n; cell = f }
-
 abbrev pub plain-meaning : (k n : ℕ) → List ℕ → Meaning
 plain-meaning k n cs = full-meaning k n (plain-cell k n cs)
-
--- the numbers of shuttles and of moves that a table can have
-abbrev pub Small : (k n : ℕ) → Type 0
-Small k n = (0 < k) × (k ≤ 16) × (0 < n) × (n ≤ 4096)
 
 -- whether v may stand at p: a place, but 65,535 alone between a shuttle and itself
 abbrev pub tidy-at : (k n p v : ℕ) → Bool

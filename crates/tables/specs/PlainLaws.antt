@@ -15,17 +15,17 @@ use Rattle.std.specs.declared.result.Result.the-variants.{Ok, Err}
 use Rattle.std.proofs.shelf.Bits.{mul-add-lt}
 use Rattle.words.specs.declared.Refusal.{Refusal}
 use Rattle.words.specs.Refusals.{passed}
-use Rattle.tables.specs.Meaning.{Lawful}
+use Rattle.tables.specs.Meaning.{Lawful, Small}
 use Rattle.tables.specs.Answers.{allowed}
 use Rattle.tables.specs.Checked.{Inside, inside-from}
 use Rattle.tables.specs.Filled.{filled-le}
-use Rattle.tables.specs.Plain.{place, decoded, plain-cell, plain-meaning, Small, tidy-at}
+use Rattle.tables.specs.Plain.{place, decoded, plain-cell, plain-meaning, tidy-at}
 
 -- the place of a cell lies within the first k * k * n numbers
-pub place-lt : (k n s t i : ℕ) → Inside k n s t i → place k n s t i < k * k * n
-place-lt k n s t i h =
-    let row : s * k + t < k * k = mul-add-lt s k t k (h .from-below) (h .to-below) in
-    omega (arith, mul-add-lt (s * k + t) n i (k * k) row (h .place-below))
+pub place-lt : (k n s t i : ℕ) → s < k → t < k → i < n → place k n s t i < k * k * n
+place-lt k n s t i ls lt li =
+    let row : s * k + t < k * k = mul-add-lt s k t k ls lt in
+    omega (arith, mul-add-lt (s * k + t) n i (k * k) row li)
 
 -- a filled cell is allowed, and a number stands for what it holds
 held : (r : Result Unit Refusal) (o : Option ℕ) (j : ℕ) → cond (isOk r) o None ≡ Some j → (r ≡ passed) × (o ≡ Some j)
@@ -59,7 +59,7 @@ module _ (k n u : ℕ) (cs : List ℕ) (small : Small k n) (whole : 1 < k → u 
   pub place-used : (s t i : ℕ) → Inside k n s t i → place k n s t i < u
   place-used s t i h =
       let two : 1 < k = two-of s t (h .from-below) (h .to-below) (h .apart) in
-      omega (arith, whole two, place-lt k n s t i h)
+      omega (arith, whole two, place-lt k n s t i (h .from-below) (h .to-below) (h .place-below))
     where
       two-of : (s t : ℕ) → s < k → t < k → (s ≡ t → ⊥) → 1 < k
       two-of s t a b c = omega arith

@@ -1,7 +1,7 @@
 // What every kind of table checks and compares.
 ghost use mathlib.Core.Path.{_≡_};
-ghost use lib.Dec.{leb};
-ghost use Rattle.words.specs.Refusals.{unless};
+ghost use lib.Dec.{leb, ltb, eqb};
+ghost use Rattle.words.specs.Refusals.{then, unless, refused-if};
 ghost use Rattle.tables.specs.Meaning.{one, smaller as smaller-of, at-most};
 ghost use Rattle.tables.specs.Answers.{allowed, valued, sizable};
 use words::Refusal;
@@ -28,22 +28,7 @@ pub fn check_length(needed: usize, given: usize) -> Result<(), Refusal>
     }
 }
 
-// Whether the cell (s, t, i) is one of k shuttles with n moves each.
-pub fn check_cell(k: u16, n: u16, s: u16, t: u16, i: u16) -> Result<(), Refusal>
-    ensures { λ r. ⌜ r ≡ allowed k n s t i ⌝ }
-{
-    if s >= k || t >= k {
-        Err(Refusal::NoSuchShuttle)
-    } else if s == t {
-        Err(Refusal::SameShuttle)
-    } else if i >= n {
-        Err(Refusal::NoSuchPlace)
-    } else {
-        Ok(())
-    }
-}
-
-// Whether a cell can hold j.
+// Whether a shuttle has a place j.
 pub fn check_value(n: u16, j: u16) -> Result<(), Refusal>
     ensures { λ r. ⌜ r ≡ valued n j ⌝ }
 {
@@ -52,6 +37,27 @@ pub fn check_value(n: u16, j: u16) -> Result<(), Refusal>
     } else {
         Ok(())
     }
+}
+
+// Whether s and t are two different shuttles of k.
+fn check_pair(k: u16, s: u16, t: u16) -> Result<(), Refusal>
+    ensures { λ r. ⌜ r ≡ then (unless (ltb s k) 1) (then (unless (ltb t k) 1) (refused-if (eqb s t) 3)) ⌝ }
+{
+    if s >= k || t >= k {
+        Err(Refusal::NoSuchShuttle)
+    } else if s == t {
+        Err(Refusal::SameShuttle)
+    } else {
+        Ok(())
+    }
+}
+
+// Whether the cell (s, t, i) is one of k shuttles with n moves each.
+pub fn check_cell(k: u16, n: u16, s: u16, t: u16, i: u16) -> Result<(), Refusal>
+    ensures { λ r. ⌜ r ≡ allowed k n s t i ⌝ }
+{
+    check_pair(k, s, t)?;
+    check_value(n, i)
 }
 
 // The smaller of two values, where none is greater than each number.

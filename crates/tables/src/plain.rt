@@ -5,9 +5,9 @@ ghost use Prim.Native.Nat.{ℕ, _+_, _*_, _^_, _<_, _≤_};
 ghost use lib.ListN.{length, getD, set};
 ghost use denote.Ref.{now};
 ghost use Rattle.words.specs.Refusals.{passed, if-done, Left-alone};
-ghost use Rattle.tables.specs.Meaning.{one, filled-of, wiped};
+ghost use Rattle.tables.specs.Meaning.{Small, one, filled-of, wiped};
 ghost use Rattle.tables.specs.Answers.{allowed, put-answer, put-after, clear-answer, clear-after};
-ghost use Rattle.tables.specs.Plain.{place, decoded, encoded, plain-cell, plain-meaning, Small, tidy-at, plain-check, plain-made, plain-used, wiped-front};
+ghost use Rattle.tables.specs.Plain.{place, decoded, encoded, plain-cell, plain-meaning, tidy-at, plain-check, plain-made, plain-used, wiped-front};
 ghost use Rattle.tables.specs.PlainLaws.{plain-lawful};
 use crate::checks::at_most;
 use crate::checks::check_cell;
@@ -63,7 +63,7 @@ pub fn check_plain(shuttles: u16, moves: u16, given: usize) -> Result<(), Refusa
     check_length(numbers_of(shuttles, moves), given)
 }
 
-// The sizes, how many numbers of the buffer are used, how many of them stand for filled cells, and the buffer.
+// The sizes, how many numbers of the buffer are used, how many cells are filled, and the buffer.
 #[derive(Drop)]
 struct Lent<'a> {
     shuttles: u16,
@@ -131,11 +131,13 @@ impl<'a> Lent<'a> {
     }
 }
 
+// The table. What holds of its numbers stands here and not in `Lent`, whose calls may break it on their way.
 #[derive(Drop)]
 pub struct Plain<'a> {
     lent: Lent<'a>,
     ghost small: { Small (lent .shuttles) (lent .moves) },
     ghost within: { lent .used ≤ length (now (lent .cells)) },
+    // a table with one shuttle has no cells, and may use nothing
     ghost whole: { 1 < lent .shuttles → lent .used ≡ lent .shuttles * lent .shuttles * lent .moves },
     ghost tidy: { (p : ℕ) → p < lent .used → tidy-at (lent .shuttles) (lent .moves) p (getD (now (lent .cells)) p 0) ≡ true },
     ghost counted: { lent .filled ≡ filled-of (lent .shuttles) (lent .moves) (plain-cell (lent .shuttles) (lent .moves) (now (lent .cells))) },

@@ -1,20 +1,11 @@
-use native.Mathlib.Omega.{arith}
-use Rattle.std.proofs.shelf.Ways.{tells}
-use Rattle.tables.specs.Answers.{allowed}
+use borrow.Author.Needs.{needs}
+use Rattle.tables.specs.Answers.{allowed, valued}
 use Rattle.tables.proofs.checks.check_cell.Needs as need
 
-pub returns-then-t-k : need.returns-then-t-k
+pub returns-in-Break-check-pair : need.returns-in-Break-check-pair
 unfolding allowed
-returns-then-t-k c = grind (arith, tells)
+returns-in-Break-check-pair c = search needs
 
-pub returns-then-s-t : need.returns-then-s-t
-unfolding allowed
-returns-then-s-t c = grind (arith, tells)
-
-pub returns-then-i-n : need.returns-then-i-n
-unfolding allowed
-returns-then-i-n c = grind (arith, tells)
-
-pub returns-else-i-n : need.returns-else-i-n
-unfolding allowed
-returns-else-i-n c = grind (arith, tells)
+pub returns : need.returns
+unfolding allowed valued
+returns c = search needs

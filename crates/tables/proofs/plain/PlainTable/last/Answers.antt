@@ -6,7 +6,7 @@ use Rattle.tables.proofs.Extremes.{last-more}
 use Rattle.tables.proofs.plain.PlainTable.last.Needs as need
 
 pub at-requires : need.at-requires
-at-requires c κs = sym (allowed-at _ _ _ _ _ _ (sym (c .in-Continue-check-cell .ensures tt)) (c .loop-p-test .taken))
+at-requires c κs = sym (allowed-at _ _ _ _ _ _ (sym (c .in-Continue-check-cell .ensures tt)) (omega arith))
 
 pub loop-p-again : need.loop-p-again
 loop-p-again c =

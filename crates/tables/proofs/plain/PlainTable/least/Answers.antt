@@ -7,10 +7,10 @@ use Rattle.tables.proofs.Extremes.{least-none, least-more}
 use Rattle.tables.proofs.plain.PlainTable.least.Needs as need
 
 pub loop-p-holds : need.loop-p-holds
-loop-p-holds c = sym (least-none _ (c .args .i) (c .args .i) (omega arith))
+loop-p-holds c = sym (least-none _ (c .args .i) _ (omega arith))
 
 pub at-requires : need.at-requires
-at-requires c κs = sym (allowed-at _ _ _ _ _ _ (sym (c .in-Continue-check-cell .ensures tt)) (c .loop-p-test .taken))
+at-requires c κs = sym (allowed-at _ _ _ _ _ _ (sym (c .in-Continue-check-cell .ensures tt)) (omega arith))
 
 pub loop-p-again : need.loop-p-again
 loop-p-again c =
