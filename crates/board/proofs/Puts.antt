@@ -3,7 +3,6 @@ use Prim.Native.Nat.{ℕ, _<_, _/_, _%_, min}
 use mathlib.Core.Path.{_≡_, refl, sym, _∙_, ap}
 use mathlib.Core.Bool.{Bool}
 use native.Mathlib.Omega.{arith}
-use Rattle.std.proofs.shelf.Ways.{tells}
 use Rattle.std.specs.declared.option.Option.{Option}
 use Rattle.std.specs.declared.option.Option.the-variants.{Some, None}
 use Rattle.std.specs.declared.result.Result.{Result}
@@ -13,22 +12,16 @@ use Rattle.words.specs.Refusals.{passed, then, refused-if, if-done}
 use Rattle.words.proofs.Checks.{then-first, then-second, then-ok}
 use Rattle.tables.specs.Meaning.{Meaning, Lawful, with-cell}
 use Rattle.tables.specs.Answers.{taken, valued, room, allowed, cell-answer, put-answer, put-after}
+use Rattle.tables.specs.Checked.{Inside}
+use Rattle.tables.proofs.Allowed.{allowed-from, valued-from}
 use Rattle.order.specs.Rounds.{sooner}
 use Rattle.stores.specs.Holding.{Holding, not-held, not-full, with-wait, add-answer, add-after}
 use Rattle.questions.specs.Checks.{wait-check}
 use Rattle.questions.proofs.Inside.{Waiting}
 use Rattle.board.specs.Steps.{ahead, judged, Closes, earlier-cell, Placing}
 
-pub valued-ok : (n j : ℕ) → j < n → passed ≡ valued n j
-unfolding valued
-valued-ok n j l = grind (arith, tells)
-
-pub allowed-ok : (k n s t i : ℕ) → s < k → t < k → (s ≡ t → ⊥) → i < n → passed ≡ allowed k n s t i
-unfolding allowed
-allowed-ok k n s t i a c d e = grind (arith, tells)
-
 pub waiting-allowed : (k n u v : ℕ) → Waiting k n u v → passed ≡ allowed k n (u / 4096) (v / 4096) (u % 4096)
-waiting-allowed k n u v w = allowed-ok k n (u / 4096) (v / 4096) (u % 4096) (w .from .0) (w .to .0) (w .apart) (w .from .1)
+waiting-allowed k n u v w = sym (allowed-from k n (u / 4096) (v / 4096) (u % 4096) (record { from-below = w .from .0; to-below = w .to .0; apart = w .apart; place-below = w .from .1 }))
 
 earlier-below : (n j x : ℕ) (o : Option ℕ) → ((y : ℕ) → o ≡ Some y → y < n) → j < n → Some x ≡ sooner o (Some j) → x < n
 earlier-below n j x None h l e = let d : x ≡ j = cc in omega arith
@@ -46,7 +39,7 @@ put-earlier m law s t i j ok l old was x new r e m′ e′ =
     let new′ : Some x ≡ sooner (m .cell s t i) (Some j) = new ∙ ap (λ o. sooner o (Some j)) b in
     let below : x < m .moves = earlier-below (m .moves) j x (m .cell s t i) (λ y q. law .value-below s t i y q) l new′ in
     record {
-      answer = e ∙ then-ok (taken m s t i) _ ok ∙ then-ok (valued (m .moves) x) _ (valued-ok (m .moves) x below);
+      answer = e ∙ then-ok (taken m s t i) _ ok ∙ then-ok (valued (m .moves) x) _ (sym (valued-from (m .moves) x below));
       table = e′ ∙ ap (λ q. if-done q m (with-cell m s t i (Some x))) (sym e) ∙ ap (λ o. if-done r m (with-cell m s t i o)) new′;
     }
 

@@ -16,6 +16,7 @@ use Rattle.words.specs.Codes.{move-of, code-of}
 use Rattle.words.proofs.Checks.{then-first, then-second, then-ok, unless-passed}
 use Rattle.tables.specs.Meaning.{Meaning, Lawful, same-cell, with-cell}
 use Rattle.tables.specs.Answers.{room, taken, valued, put-answer}
+use Rattle.tables.proofs.Allowed.{valued-from}
 use Rattle.stores.specs.Holding.{Holding, Earliest, less-wait}
 use Rattle.order.specs.Lists.{In}
 use Rattle.order.specs.Board.{Move}
@@ -28,7 +29,7 @@ use Rattle.questions.proofs.Inside.{Waiting, wait-waiting}
 use Rattle.board.specs.Steps.{set-after, Removing}
 use Rattle.board.specs.Standing.{Limits, Waits, Sound, Stands, lengths, meant, listed, holds, without, cells-of, remove-gives, removed-waits}
 use Rattle.board.proofs.Holds.{same-waits, same-cell-is, holds-in, in-holds, holds-without, without-in, length-without, single-without, cells-without}
-use Rattle.board.proofs.Puts.{valued-ok, waiting-allowed}
+use Rattle.board.proofs.Puts.{waiting-allowed}
 use Rattle.board.proofs.Scans.{keeps-of}
 use Rattle.board.proofs.Placed.{stands-by}
 
@@ -109,7 +110,7 @@ module _ (b : Limits) (W : Waits) (h : Sound b W) (u v : ℕ) where
         let f = fits (b .shuttles) (lengths b) Left (sound-left .ordered .0) (sound-left .ordered .1) (move-of u) (v / 4096, j) (c .0) in
         let q : put-answer (meant b W) (u / 4096) (v / 4096) (u % 4096) j ≡ passed =
         then-ok (taken (meant b W) (u / 4096) (v / 4096) (u % 4096)) _ (waiting-allowed (b .shuttles) (b .moves) u v w)
-        ∙ then-ok (valued (b .moves) j) _ (valued-ok (b .moves) j (f .1 .1)) ∙ filled i (cells-of W (u / 4096) (v / 4096) (u % 4096)) (cell-in W) in
+        ∙ then-ok (valued (b .moves) j) _ (sym (valued-from (b .moves) j (f .1 .1))) ∙ filled i (cells-of W (u / 4096) (v / 4096) (u % 4096)) (cell-in W) in
         ap (λ x. if-done x (meant b W) (with-cell (meant b W) (u / 4096) (v / 4096) (u % 4096) (Some j))) q
 
   module _ (few : b .shuttles ≤ 16) (m′ : Meaning) (h′ : Holding) (o : Option ℕ) where

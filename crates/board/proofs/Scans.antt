@@ -8,6 +8,8 @@ use Rattle.std.specs.declared.result.Result.the-variants.{Ok}
 use Rattle.words.proofs.Checks.{then-ok}
 use Rattle.tables.specs.Meaning.{least-of, last-of}
 use Rattle.tables.specs.Answers.{allowed, last-answer}
+use Rattle.tables.specs.Checked.{Inside}
+use Rattle.tables.proofs.Allowed.{allowed-from}
 use Rattle.tables.proofs.Extremes.{least-smallest, last-greatest}
 use Rattle.order.specs.Board.{Short}
 use Rattle.order.specs.Rounds.{Table, Right, Right-back}
@@ -17,7 +19,6 @@ use Rattle.order.proofs.Ways.{fits}
 use Rattle.questions.specs.declared.rounds.Way.the-variants.{After}
 use Rattle.questions.specs.Looking.{or-none, look-of}
 use Rattle.board.specs.Standing.{Limits, Waits, Sound, lengths, cells-of, meant}
-use Rattle.board.proofs.Puts.{allowed-ok}
 
 -- each cell holds the smallest j of all waits s.i -> t.j
 pub keeps-of : (k n : ℕ) (W : Waits) → Keeps k n W (cells-of W)
@@ -32,13 +33,13 @@ module _ (b : Limits) (W : Waits) where
   scans : Scans (b .shuttles) (b .moves) (cells-of W) (look-of After (meant b W))
   scans s t i ls lt d li =
       subst (Smallest (b .moves) (cells-of W s t) i)
-      (sym (ap or-none (then-ok (allowed (b .shuttles) (b .moves) s t i) (Ok (least-of (cells-of W s t) i (b .moves))) (allowed-ok (b .shuttles) (b .moves) s t i ls lt d li))))
+      (sym (ap or-none (then-ok (allowed (b .shuttles) (b .moves) s t i) (Ok (least-of (cells-of W s t) i (b .moves))) (sym (allowed-from (b .shuttles) (b .moves) s t i (record { from-below = ls; to-below = lt; apart = d; place-below = li }))))))
       (least-smallest (b .moves) (cells-of W s t) i)
 
   scans-back : Scans-back (b .shuttles) (b .moves) (cells-of W) (last-look b W)
   scans-back s t j ls lt d lj =
       subst (Greatest (b .moves) (cells-of W s t) j)
-      (sym (ap or-none (then-ok (allowed (b .shuttles) (b .moves) s t j) (Ok (last-of (cells-of W s t) j (b .moves))) (allowed-ok (b .shuttles) (b .moves) s t j ls lt d lj))))
+      (sym (ap or-none (then-ok (allowed (b .shuttles) (b .moves) s t j) (Ok (last-of (cells-of W s t) j (b .moves))) (sym (allowed-from (b .shuttles) (b .moves) s t j (record { from-below = ls; to-below = lt; apart = d; place-below = lj }))))))
       (last-greatest (b .moves) (cells-of W s t) j)
 
   short : Short (b .shuttles) (b .moves) (lengths b)

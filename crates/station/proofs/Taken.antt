@@ -15,9 +15,9 @@ use Rattle.std.specs.declared.result.Result.the-variants.{Ok, Err}
 use Rattle.words.specs.declared.Refusal.{Refusal}
 use Rattle.words.specs.Refusals.{passed, then, unless, if-done}
 use Rattle.words.proofs.Checks.{then-first, then-second, then-ok, unless-passed}
-use Rattle.tables.specs.Meaning.{Meaning}
+use Rattle.tables.specs.Meaning.{Meaning, full-meaning}
 use Rattle.tables.specs.Answers.{sizable}
-use Rattle.tables.specs.Plain.{plain-check, plain-made, full-meaning}
+use Rattle.tables.specs.Plain.{plain-check, plain-made}
 use Rattle.stores.specs.Holding.{Holding}
 use Rattle.stores.specs.Loose.{empty-holding}
 use Rattle.board.specs.Standing.{limits}

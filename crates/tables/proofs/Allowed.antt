@@ -30,6 +30,10 @@ allowed-at k n s t i p ok l =
     let h = inside-from k n s t i ok in
     allowed-from k n s t p (record { from-below = h .from-below; to-below = h .to-below; apart = h .apart; place-below = l })
 
+pub valued-from : (n j : ℕ) → j < n → valued n j ≡ passed
+unfolding valued
+valued-from n j l = grind (arith, tells)
+
 pub value-from : (n j : ℕ) → valued n j ≡ passed → j < n
 unfolding valued
 value-from n j e = grind (arith, tells)

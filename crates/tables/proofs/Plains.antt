@@ -19,7 +19,9 @@ use Rattle.words.specs.declared.Refusal.{Refusal}
 use Rattle.words.specs.Refusals.{passed, if-done}
 use Rattle.tables.specs.Meaning.{one, filled-of, with-cell, full-meaning, Small}
 use Rattle.tables.specs.Answers.{allowed, valued, sizable, put-answer, put-after, clear-after}
-use Rattle.tables.specs.Checked.{Inside, inside-from, then-passed}
+use Rattle.std.proofs.shelf.Tests.{leb-true}
+use Rattle.words.proofs.Checks.{then-first, then-second, unless-passed}
+use Rattle.tables.specs.Checked.{Inside, inside-from}
 use Rattle.tables.specs.Filled.{filled-le}
 use Rattle.tables.specs.Plain.{place, decoded, encoded, plain-cell, plain-meaning, tidy-at, plain-check, wiped-front}
 use Rattle.tables.specs.declared.plain.Plain.{Plain}
@@ -190,8 +192,8 @@ module _ (k n u : ℕ) (cs : List ℕ) (small : Small k n) (within : u ≤ lengt
 pub check-passed : (k n l : ℕ) → plain-check k n l ≡ passed → Small k n × (k * k * n ≤ l)
 unfolding plain-check
 check-passed k n l e =
-    let p = then-passed (sizable k n) _ tt e in
-    (sizable-small k n (p .0), grind (arith, tells))
+    let p = then-second (sizable k n) _ tt (sym e) in
+    (sizable-small k n (sym (then-first (sizable k n) _ tt (sym e))), leb-true (k * k * n) l (unless-passed _ 9 p))
 
 -- a table that is made
 module _ (k n : ℕ) (cs : List ℕ) where
