@@ -83,5 +83,5 @@ pub record Law (b : Limits) (es : List Event) : Type 0 where
   pub upright : (i : ℕ) → i ≤ length es → Upright b (standing (take i es))
 
 -- what one call says of all waits that stand on its board
-abbrev pub Step-keeps : Meaning → Holding → Ask → Answer → Meaning → Holding → Type 0
-Step-keeps m h q a m′ h′ = (b : Limits) (W : Waits) → Stands b W m h → Answered b W q a × Stands b (after-call W q a) m′ h′
+pub record Step-keeps (m : Meaning) (h : Holding) (q : Ask) (a : Answer) (m′ : Meaning) (h′ : Holding) : Type 0 where
+  pub keeps : (b : Limits) (W : Waits) → Stands b W m h → Answered b W q a × Stands b (after-call W q a) m′ h′

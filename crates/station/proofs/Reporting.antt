@@ -91,7 +91,7 @@ module _ (b : Limits) (file old : List ℕ) where
     -- the answer is small, so that its line has at most 24 bytes
     taken-small : (s : Option Ask) (a : Answer) (m′ : Meaning) (h′ : Holding) → Step-taken m h s a m′ h′ → Small a
     taken-small None a m′ h′ t = subst Small (sym (t .0)) tt
-    taken-small (Some q) a m′ h′ t = answered-small b (standing before-it) (g .stands .sound) few q a (t b (standing before-it) (g .stands) .0)
+    taken-small (Some q) a m′ h′ t = answered-small b (standing before-it) (g .stands .sound) few q a (t .keeps b (standing before-it) (g .stands) .0)
 
     abbrev More : Option Ask → Answer → Meaning → Holding → Type 0
     More s a m′ h′ =
@@ -105,7 +105,7 @@ module _ (b : Limits) (file old : List ℕ) where
           (subst (λ x. Stands b (standing before-it) x h′) (sym (t .1)) (subst (λ x. Stands b (standing before-it) m x) (sym (t .2)) (g .stands))),
     )
     more (Some q) a m′ h′ t =
-        let k = t b (standing before-it) (g .stands) in (
+        let k = t .keeps b (standing before-it) (g .stands) in (
           tt,
           law-more b before-it (record { ask = q; answer = a }) (g .law) (k .0) (upright b _ (k .1 .sound)),
           subst (λ V. Stands b V m′ h′) (sym (standing-snoc [] before-it (record { ask = q; answer = a }))) (k .1),
