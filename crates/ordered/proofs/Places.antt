@@ -8,7 +8,7 @@ use mathlib.Core.List.{List, [], _∷_}
 use lib.Dec.{ltb}
 use lib.ListN.{length, take, getD}
 use Rattle.std.proofs.shelf.Lists.{length-take-le, getD-take}
-use Rattle.std.proofs.shelf.Tests.{and-parts, and-left, or-from, cases-bool, cases-lt, cond-both, lt-ltb, le-ltb, ltb-true, ltb-false}
+use Rattle.std.proofs.shelf.Tests.{and-parts, and-left, cases-bool, cases-lt, cond-both, lt-ltb, le-ltb, ltb-true, ltb-false}
 use Rattle.std.proofs.shelf.Ways.{tells}
 use Rattle.stores.specs.declared.wait.Wait.{Wait}
 use Rattle.stores.specs.Waits.{wait-of, is-wait, held-in}

@@ -73,8 +73,8 @@ fn close_gap(records: &mut [Wait], place: usize, count: usize)
     requires few { ⌜ count ≤ length (now records) ⌝ }
     ensures { λ _. ⌜ Closed (now (records .entry)) (now (records .exit)) place count ⌝ }
 {
-    'down: for i in place..count - 1 {
-        records[i] = records[i + 1];
+    'down: for i in place + 1..count {
+        records[i - 1] = records[i];
     }
 }
 

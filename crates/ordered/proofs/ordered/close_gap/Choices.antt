@@ -6,7 +6,6 @@ use Rattle.ordered.proofs.ordered.close_gap.Given as given
 
 abbrev pub Inv-down : given.InvT-down
 Inv-down l =
-    (l .i + 1 ≤ l .count)
-    × ((k : ℕ) → k < l .place → getD (l .records) k (wait-of 0 0) ≡ getD (l .entry .records) k (wait-of 0 0))
-    × ((k : ℕ) → l .place ≤ k → k < l .i → getD (l .records) k (wait-of 0 0) ≡ getD (l .entry .records) (k + 1) (wait-of 0 0))
-    × ((k : ℕ) → l .i ≤ k → getD (l .records) k (wait-of 0 0) ≡ getD (l .entry .records) k (wait-of 0 0))
+    ((k : ℕ) → k < l .place → getD (l .records) k (wait-of 0 0) ≡ getD (l .entry .records) k (wait-of 0 0))
+    × ((k : ℕ) → l .place ≤ k → k + 1 < l .i → getD (l .records) k (wait-of 0 0) ≡ getD (l .entry .records) (k + 1) (wait-of 0 0))
+    × ((k : ℕ) → l .i ≤ k + 1 → getD (l .records) k (wait-of 0 0) ≡ getD (l .entry .records) k (wait-of 0 0))

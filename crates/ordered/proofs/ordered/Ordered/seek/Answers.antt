@@ -1,4 +1,3 @@
-use Prim.Native.Nat.{_+_, _-_, _/_, _<_}
 use native.Mathlib.Omega.{arith}
 use Rattle.ordered.proofs.Places.{place-within, place-above, place-up-to}
 use Rattle.ordered.proofs.ordered.Ordered.seek.Needs as need

@@ -1,4 +1,3 @@
-use Prim.Native.Nat.{_*_}
 use native.Mathlib.Omega.{arith}
 use mathlib.Core.Path.{sym, ap, _∙_, subst}
 use Rattle.stores.specs.Holding.{Earliest}
