@@ -42,13 +42,13 @@ led-to w u t = cond (eqb (w .first) u && eqb (w .second / 4096) t) (Some (w .sec
 abbrev pub led-from : List Wait → (n p u t : ℕ) → Option ℕ
 led-from records n p u t = cond (ltb p n) (led-to (getD records p (wait-of 0 0)) u t) None
 
--- of the first n records those from the place p on stand one place later, and all others where they stood
+-- of the first n records those from the place p on stand one place later; up to p, and behind the place that is now taken, all is as it was
 pub record Opened (old new : List Wait) (p n : ℕ) : Type 0 where
   pub low : (k : ℕ) → k ≤ p → getD new k (wait-of 0 0) ≡ getD old k (wait-of 0 0)
   pub high : (k : ℕ) → p ≤ k → k < n → getD new (k + 1) (wait-of 0 0) ≡ getD old k (wait-of 0 0)
   pub behind : (k : ℕ) → n < k → getD new k (wait-of 0 0) ≡ getD old k (wait-of 0 0)
 
--- of the first n records those behind the place p stand one place earlier, and all others, the last of the n among them, where they stood
+-- of the first n records those behind the place p stand one place earlier; before p, and from the last of the n on, all is as it was
 pub record Closed (old new : List Wait) (p n : ℕ) : Type 0 where
   pub low : (k : ℕ) → k < p → getD new k (wait-of 0 0) ≡ getD old k (wait-of 0 0)
   pub high : (k : ℕ) → p ≤ k → k + 1 < n → getD new k (wait-of 0 0) ≡ getD old (k + 1) (wait-of 0 0)
