@@ -19,7 +19,7 @@ use Rattle.stores.specs.LooseLaws.{is-wait-is}
 use Rattle.stores.proofs.Waits.{is-wait-at, held-push, held-at, single-push, single-pop, single-set, held-moved, held-dropped}
 use Rattle.stores.proofs.Earliest.{earliest-either}
 
-same-holding : (f g : ℕ → ℕ → Bool) (c d m n : ℕ) → ((a b : ℕ) → f a b ≡ g a b) → c ≡ d → m ≡ n
+pub same-holding : (f g : ℕ → ℕ → Bool) (c d m n : ℕ) → ((a b : ℕ) → f a b ≡ g a b) → c ≡ d → m ≡ n
     → _≡_ {A = Holding} (record { held = f; count = c; capacity = m }) (record { held = g; count = d; capacity = n })
 same-holding f g c d m n same counts sizes = let e : f ≡ g = fun-ext (λ a. fun-ext (λ b. same a b)) in cc
 

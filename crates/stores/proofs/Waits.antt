@@ -25,7 +25,7 @@ is-wait-turn w x = grind (arith, tells)
 
 -- one record more
 
-or-turn : (x y z : Bool) → (x || (y || z)) ≡ (y || (x || z))
+pub or-turn : (x y z : Bool) → (x || (y || z)) ≡ (y || (x || z))
 or-turn true true z = refl
 or-turn true false z = refl
 or-turn false true z = refl
@@ -64,12 +64,12 @@ pub not-at : (l : List Wait) (p : ℕ) (d : Wait) (a b : ℕ) → p < length l �
 not-at l p d a b h e = grind (arith, held-at l p d h, is-wait-at (getD l p d) a b)
 
 -- the wait x is no more held
-out-of : (x h : Bool) → (x ≡ true → h ≡ false) → h ≡ (not x && (x || h))
+pub out-of : (x h : Bool) → (x ≡ true → h ≡ false) → h ≡ (not x && (x || h))
 out-of true h none = none refl
 out-of false h none = refl
 
 -- y is let go, and w is held
-in-for : (w y h : Bool) → (w ≡ true → y ≡ false) → (w || (not y && h)) ≡ (not y && (w || h))
+pub in-for : (w y h : Bool) → (w ≡ true → y ≡ false) → (w || (not y && h)) ≡ (not y && (w || h))
 in-for true true h apart = apart refl
 in-for true false h apart = refl
 in-for false y h apart = refl
