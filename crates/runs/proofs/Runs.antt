@@ -8,7 +8,7 @@ use lib.ListN.{length, getD, take, length-append}
 use lib.Seq.{take-append-le, take-all}
 use Rattle.std.proofs.shelf.Tests.{cases-lt}
 use Rattle.board.specs.Standing.{Limits, Waits}
-use Rattle.runs.specs.Law.{Event, after-call, standing-from, standing, Answered, Upright, Law}
+use Rattle.runs.specs.Law.{Event, after-call, standing-from, standing, Right-at, Upright, Law}
 
 pub standing-snoc : (W : Waits) (es : List Event) (e : Event) → standing-from W (es ++ e ∷ []) ≡ after-call (standing-from W es) (e .ask) (e .answer)
 standing-snoc W [] e = refl
@@ -31,7 +31,7 @@ law-none b u = record { each = λ i x l. absurd (omega arith); upright = λ i l.
     go zero l = u
     go (suc i) l = absurd (omega arith)
 
-module _ (b : Limits) (es : List Event) (e : Event) (law : Law b es) (a : Answered b (standing es) (e .ask) (e .answer)) (u : Upright b (after-call (standing es) (e .ask) (e .answer))) where
+module _ (b : Limits) (es : List Event) (e : Event) (law : Law b es) (a : Right-at b (standing es) e) (u : Upright b (after-call (standing es) (e .ask) (e .answer))) where
   law-front : (i : ℕ) → i ≤ length es → take i (es ++ e ∷ []) ≡ take i es
   law-front i l = take-append-le i es (e ∷ []) l
 
@@ -45,13 +45,13 @@ module _ (b : Limits) (es : List Event) (e : Event) (law : Law b es) (a : Answer
         (cases-lt i (suc (length es)));
   }
     where
-      front : (i : ℕ) (x : Event) → i < length es → Answered b (standing (take i (es ++ e ∷ []))) (getD (es ++ e ∷ []) i x .ask) (getD (es ++ e ∷ []) i x .answer)
+      front : (i : ℕ) (x : Event) → i < length es → Right-at b (standing (take i (es ++ e ∷ []))) (getD (es ++ e ∷ []) i x)
       front i x f =
-          subst (λ ds. Answered b (standing ds) (getD (es ++ e ∷ []) i x .ask) (getD (es ++ e ∷ []) i x .answer)) (sym (law-front i (omega arith)))
-          (subst (λ d. Answered b (standing (take i es)) (d .ask) (d .answer)) (sym (getD-front es e i x f)) (law .each i x f))
+          subst (λ ds. Right-at b (standing ds) (getD (es ++ e ∷ []) i x)) (sym (law-front i (omega arith)))
+          (subst (Right-at b (standing (take i es))) (sym (getD-front es e i x f)) (law .each i x f))
 
-      last : (i : ℕ) (x : Event) → i ≡ length es → Answered b (standing (take i (es ++ e ∷ []))) (getD (es ++ e ∷ []) i x .ask) (getD (es ++ e ∷ []) i x .answer)
+      last : (i : ℕ) (x : Event) → i ≡ length es → Right-at b (standing (take i (es ++ e ∷ []))) (getD (es ++ e ∷ []) i x)
       last i x q =
-          subst (λ ds. Answered b (standing ds) (getD (es ++ e ∷ []) i x .ask) (getD (es ++ e ∷ []) i x .answer))
+          subst (λ ds. Right-at b (standing ds) (getD (es ++ e ∷ []) i x))
           (sym (law-front i (omega arith) ∙ take-all i es (omega arith)))
-          (subst (λ d. Answered b (standing es) (d .ask) (d .answer)) (sym (getD-end es e i x q)) a)
+          (subst (Right-at b (standing es)) (sym (getD-end es e i x q)) a)

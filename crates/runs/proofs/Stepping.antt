@@ -13,7 +13,7 @@ use Rattle.questions.specs.declared.rounds.Way.the-variants.{After, Before as A
 use Rattle.board.specs.Standing.{Limits, Waits, Sound, Stands, lengths, placed-waits, removed-waits, Place-keeps, Remove-keeps, Finds-so, Tells-so}
 use Rattle.runs.specs.declared.calls.Ask.the-variants.{Place, Remove, Before as Is-before, FirstAfter, LastBefore}
 use Rattle.runs.specs.declared.calls.Answer.{Answer}
-use Rattle.runs.specs.Law.{done-answer, truth-answer, found-answer, after-call, Upright, Step-keeps}
+use Rattle.runs.specs.Law.{done-answer, truth-answer, found-answer, after-call, Upright, Silent-keeps, Step-keeps}
 
 pub upright : (b : Limits) (W : Waits) → Sound b W → Upright b W
 upright b W h = record { order = h .ordered; before = exact (b .shuttles) (lengths b) W (h .ordered) }
@@ -27,21 +27,21 @@ after-removed W u v (Ok x) = refl
 after-removed W u v (Err e) = refl
 
 module _ (m : Meaning) (h : Holding) (a : Answer) where
-  pub step-place : (m′ : Meaning) (h′ : Holding) (u v : ℕ) (r : Result Unit Refusal) → a ≡ done-answer r → Place-keeps m h u v r m′ h′ → Step-keeps m h (Place u v) a m′ h′
-  step-place m′ h′ u v r e p =
-      subst (λ y. Step-keeps m h (Place u v) y m′ h′) (sym e)
-      (record { keeps = λ b W st. let k = p b W st in ((r, refl, k .0, k .1), subst (λ V. Stands b V m′ h′) (after-placed W u v r) (k .2)) })
+  pub step-place : (m′ : Meaning) (h′ : Holding) (u v : ℕ) (r : Result Unit Refusal) → a ≡ done-answer r → Place-keeps m h u v r m′ h′ → Silent-keeps m h (Place u v) a m′ h′
+  step-place m′ h′ u v r e p = record { slice = λ old.
+      subst (λ y. Step-keeps m h (Place u v) old y old m′ h′) (sym e)
+      (record { keeps = λ b W st. let k = p b W st in (((r, refl, k .0, k .1), refl), subst (λ V. Stands b V m′ h′) (after-placed W u v r) (k .2)) }) }
 
-  pub step-remove : (m′ : Meaning) (h′ : Holding) (u v : ℕ) (r : Result Unit Refusal) → a ≡ done-answer r → Remove-keeps m h u v r m′ h′ → Step-keeps m h (Remove u v) a m′ h′
-  step-remove m′ h′ u v r e p =
-      subst (λ y. Step-keeps m h (Remove u v) y m′ h′) (sym e)
-      (record { keeps = λ b W st. let k = p b W st in (ap done-answer (k .0), subst (λ V. Stands b V m′ h′) (after-removed W u v r) (k .1)) })
+  pub step-remove : (m′ : Meaning) (h′ : Holding) (u v : ℕ) (r : Result Unit Refusal) → a ≡ done-answer r → Remove-keeps m h u v r m′ h′ → Silent-keeps m h (Remove u v) a m′ h′
+  step-remove m′ h′ u v r e p = record { slice = λ old.
+      subst (λ y. Step-keeps m h (Remove u v) old y old m′ h′) (sym e)
+      (record { keeps = λ b W st. let k = p b W st in ((ap done-answer (k .0), refl), subst (λ V. Stands b V m′ h′) (after-removed W u v r) (k .1)) }) }
 
-  pub step-before : (u v : ℕ) (r : Result Bool Refusal) (c : ℕ) → a ≡ truth-answer r c → Tells-so m h u v r c → Step-keeps m h (Is-before u v) a m h
-  step-before u v r c e p = record { keeps = λ b W st. ((r, c, e, p b W st), st) }
+  pub step-before : (u v : ℕ) (r : Result Bool Refusal) (c : ℕ) → a ≡ truth-answer r c → Tells-so m h u v r c → Silent-keeps m h (Is-before u v) a m h
+  step-before u v r c e p = record { slice = λ old. record { keeps = λ b W st. (((r, c, e, p b W st), refl), st) } }
 
-  pub step-first : (u t : ℕ) (r : Result (Option ℕ) Refusal) (c : ℕ) → a ≡ found-answer r c → Finds-so After m h u t r c → Step-keeps m h (FirstAfter u t) a m h
-  step-first u t r c e p = record { keeps = λ b W st. ((r, c, e, p b W st), st) }
+  pub step-first : (u t : ℕ) (r : Result (Option ℕ) Refusal) (c : ℕ) → a ≡ found-answer r c → Finds-so After m h u t r c → Silent-keeps m h (FirstAfter u t) a m h
+  step-first u t r c e p = record { slice = λ old. record { keeps = λ b W st. (((r, c, e, p b W st), refl), st) } }
 
-  pub step-last : (u t : ℕ) (r : Result (Option ℕ) Refusal) (c : ℕ) → a ≡ found-answer r c → Finds-so Ahead m h u t r c → Step-keeps m h (LastBefore u t) a m h
-  step-last u t r c e p = record { keeps = λ b W st. ((r, c, e, p b W st), st) }
+  pub step-last : (u t : ℕ) (r : Result (Option ℕ) Refusal) (c : ℕ) → a ≡ found-answer r c → Finds-so Ahead m h u t r c → Silent-keeps m h (LastBefore u t) a m h
+  step-last u t r c e p = record { slice = λ old. record { keeps = λ b W st. (((r, c, e, p b W st), refl), st) } }

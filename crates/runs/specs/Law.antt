@@ -18,7 +18,7 @@ use Rattle.board.specs.Standing.{Limits, Waits, Stands, lengths, without, Place
 use Rattle.runs.specs.declared.calls.Ask.{Ask}
 use Rattle.runs.specs.declared.calls.Ask.the-variants.{Place, Remove, Before as Is-before, FirstAfter, LastBefore}
 use Rattle.runs.specs.declared.calls.Answer.{Answer}
-use Rattle.runs.specs.declared.calls.Answer.the-variants.{Done, Refused, Truth, Found as Found-at}
+use Rattle.runs.specs.declared.calls.Answer.the-variants.{Pending, Done, Refused, Truth, Found as Found-at}
 
 -- results as answers
 
@@ -36,6 +36,7 @@ found-answer (Err e) c = Refused e
 
 -- the first waits where the call is done, and else the second
 abbrev pub where-done : Answer → Waits → Waits → Waits
+where-done Pending V W = W
 where-done Done V W = V
 where-done (Refused e) V W = W
 where-done (Truth y c) V W = W
@@ -49,18 +50,20 @@ after-call W (Is-before u v) a = W
 after-call W (FirstAfter u t) a = W
 after-call W (LastBefore u t) a = W
 
--- the answer to a call where the waits W stand
-abbrev pub Answered : Limits → Waits → Ask → Answer → Type 0
-Answered b W (Place u v) a = (r : Result Unit Refusal) × (a ≡ done-answer r) × Placed b W u v r × Circled b W u v r
-Answered b W (Remove u v) a = a ≡ done-answer (remove-gives b W u v)
-Answered b W (Is-before u v) a = (r : Result Bool Refusal) × (c : ℕ) × (a ≡ truth-answer r c) × Tells b W u v r c
-Answered b W (FirstAfter u t) a = (r : Result (Option ℕ) Refusal) × (c : ℕ) × (a ≡ found-answer r c) × Found After b W u t r c
-Answered b W (LastBefore u t) a = (r : Result (Option ℕ) Refusal) × (c : ℕ) × (a ≡ found-answer r c) × Found Ahead b W u t r c
+-- the answer to a call where the waits W stand, and what it leaves in its slice
+abbrev pub Answered : Limits → Waits → Ask → List ℕ → Answer → List ℕ → Type 0
+Answered b W (Place u v) old a new = ((r : Result Unit Refusal) × (a ≡ done-answer r) × Placed b W u v r × Circled b W u v r) × (new ≡ old)
+Answered b W (Remove u v) old a new = (a ≡ done-answer (remove-gives b W u v)) × (new ≡ old)
+Answered b W (Is-before u v) old a new = ((r : Result Bool Refusal) × (c : ℕ) × (a ≡ truth-answer r c) × Tells b W u v r c) × (new ≡ old)
+Answered b W (FirstAfter u t) old a new = ((r : Result (Option ℕ) Refusal) × (c : ℕ) × (a ≡ found-answer r c) × Found After b W u t r c) × (new ≡ old)
+Answered b W (LastBefore u t) old a new = ((r : Result (Option ℕ) Refusal) × (c : ℕ) × (a ≡ found-answer r c) × Found Ahead b W u t r c) × (new ≡ old)
 
--- a call and its answer
+-- a call, what its slice held before, its answer, and what its slice holds afterwards
 pub record Event : Type 0 where
   pub ask : Ask
+  pub given : List ℕ
   pub answer : Answer
+  pub left : List ℕ
 
 -- the waits that stand after some events, W standing at first
 abbrev pub standing-from : Waits → List Event → Waits
@@ -77,11 +80,19 @@ pub record Upright (b : Limits) (W : Waits) : Type 0 where
   pub before : (u v : Move) → On (b .shuttles) (lengths b) u → On (b .shuttles) (lengths b) v → (u ≡ v → ⊥)
       → Before (b .shuttles) (lengths b) W u v ↔ Always-earlier b W u v
 
--- the law: each call is answered at the waits that stand just before it, and after the making and after every call these are upright
+-- the event is right where the waits W stand
+abbrev pub Right-at : Limits → Waits → Event → Type 0
+Right-at b W e = Answered b W (e .ask) (e .given) (e .answer) (e .left)
+
+-- the law: each call answers and writes what is right at the waits that stand just before it, and after the making and after every call these are upright
 pub record Law (b : Limits) (es : List Event) : Type 0 where
-  pub each : (i : ℕ) (x : Event) → i < length es → Answered b (standing (take i es)) (getD es i x .ask) (getD es i x .answer)
+  pub each : (i : ℕ) (x : Event) → i < length es → Right-at b (standing (take i es)) (getD es i x)
   pub upright : (i : ℕ) → i ≤ length es → Upright b (standing (take i es))
 
 -- what one call says of all waits that stand on its board
-pub record Step-keeps (m : Meaning) (h : Holding) (q : Ask) (a : Answer) (m′ : Meaning) (h′ : Holding) : Type 0 where
-  pub keeps : (b : Limits) (W : Waits) → Stands b W m h → Answered b W q a × Stands b (after-call W q a) m′ h′
+pub record Step-keeps (m : Meaning) (h : Holding) (q : Ask) (old : List ℕ) (a : Answer) (new : List ℕ) (m′ : Meaning) (h′ : Holding) : Type 0 where
+  pub keeps : (b : Limits) (W : Waits) → Stands b W m h → Answered b W q old a new × Stands b (after-call W q a) m′ h′
+
+-- the same of a call that leaves its slice alone, whatever that holds
+pub record Silent-keeps (m : Meaning) (h : Holding) (q : Ask) (a : Answer) (m′ : Meaning) (h′ : Holding) : Type 0 where
+  pub slice : (old : List ℕ) → Step-keeps m h q old a old m′ h′

@@ -10,11 +10,20 @@ pub enum Ask {
     LastBefore(u16, u16),
 }
 
-// What a call answers. A question that is taken adds its rounds; one that is refused has none.
+// What a call answers; nothing yet where it has not been made. A question that is taken adds its rounds; one that is refused has none.
 #[derive(Clone, Copy)]
 pub enum Answer {
+    Pending,
     Done,
     Refused(Refusal),
     Truth(bool, u32),
     Found(Option<u16>, u32),
+}
+
+// A call of a run, with a slice of its own, and its answer once it is made.
+#[derive(Drop)]
+pub struct Call {
+    pub ask: Ask,
+    pub slice: Vec<u16>,
+    pub answer: Answer,
 }

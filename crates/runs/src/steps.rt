@@ -1,6 +1,6 @@
 // One call on a board.
 ghost use mathlib.Core.Path.{_≡_};
-ghost use Rattle.runs.specs.Law.{done-answer, truth-answer, found-answer, Step-keeps};
+ghost use Rattle.runs.specs.Law.{done-answer, truth-answer, found-answer, Silent-keeps, Step-keeps};
 use crate::calls::Answer;
 use crate::calls::Ask;
 use board::board::Board;
@@ -36,41 +36,41 @@ fn of_found(r: Result<Option<u16>, Refusal>, rounds: u32) -> Answer
 }
 
 fn place<T: Table, S: Store>(board: &mut Board<T, S>, u: u16, v: u16) -> Answer
-    ensures { λ a. ⌜ Step-keeps (T·Table .meaning (now (board .entry) .table)) (S·Store .holding (now (board .entry) .store)) (Ask.Place u v) a (T·Table .meaning (now (board .exit) .table)) (S·Store .holding (now (board .exit) .store)) ⌝ }
+    ensures { λ a. ⌜ Silent-keeps (T·Table .meaning (now (board .entry) .table)) (S·Store .holding (now (board .entry) .store)) (Ask.Place u v) a (T·Table .meaning (now (board .exit) .table)) (S·Store .holding (now (board .exit) .store)) ⌝ }
 {
     of_done(board.place(u, v))
 }
 
 fn remove<T: Table, S: Store>(board: &mut Board<T, S>, u: u16, v: u16) -> Answer
-    ensures { λ a. ⌜ Step-keeps (T·Table .meaning (now (board .entry) .table)) (S·Store .holding (now (board .entry) .store)) (Ask.Remove u v) a (T·Table .meaning (now (board .exit) .table)) (S·Store .holding (now (board .exit) .store)) ⌝ }
+    ensures { λ a. ⌜ Silent-keeps (T·Table .meaning (now (board .entry) .table)) (S·Store .holding (now (board .entry) .store)) (Ask.Remove u v) a (T·Table .meaning (now (board .exit) .table)) (S·Store .holding (now (board .exit) .store)) ⌝ }
 {
     of_done(board.remove(u, v))
 }
 
 fn before<T: Table, S: Store>(board: &mut Board<T, S>, u: u16, v: u16) -> Answer
-    ensures { λ a. ⌜ Step-keeps (T·Table .meaning (now (board .entry) .table)) (S·Store .holding (now (board .entry) .store)) (Ask.Before u v) a (T·Table .meaning (now (board .exit) .table)) (S·Store .holding (now (board .exit) .store)) ⌝ }
+    ensures { λ a. ⌜ Silent-keeps (T·Table .meaning (now (board .entry) .table)) (S·Store .holding (now (board .entry) .store)) (Ask.Before u v) a (T·Table .meaning (now (board .exit) .table)) (S·Store .holding (now (board .exit) .store)) ⌝ }
 {
     let (truth, rounds) = board.before(u, v);
     of_truth(truth, rounds)
 }
 
 fn first_after<T: Table, S: Store>(board: &mut Board<T, S>, u: u16, t: u16) -> Answer
-    ensures { λ a. ⌜ Step-keeps (T·Table .meaning (now (board .entry) .table)) (S·Store .holding (now (board .entry) .store)) (Ask.FirstAfter u t) a (T·Table .meaning (now (board .exit) .table)) (S·Store .holding (now (board .exit) .store)) ⌝ }
+    ensures { λ a. ⌜ Silent-keeps (T·Table .meaning (now (board .entry) .table)) (S·Store .holding (now (board .entry) .store)) (Ask.FirstAfter u t) a (T·Table .meaning (now (board .exit) .table)) (S·Store .holding (now (board .exit) .store)) ⌝ }
 {
     let (found, rounds) = board.first_after(u, t);
     of_found(found, rounds)
 }
 
 fn last_before<T: Table, S: Store>(board: &mut Board<T, S>, u: u16, t: u16) -> Answer
-    ensures { λ a. ⌜ Step-keeps (T·Table .meaning (now (board .entry) .table)) (S·Store .holding (now (board .entry) .store)) (Ask.LastBefore u t) a (T·Table .meaning (now (board .exit) .table)) (S·Store .holding (now (board .exit) .store)) ⌝ }
+    ensures { λ a. ⌜ Silent-keeps (T·Table .meaning (now (board .entry) .table)) (S·Store .holding (now (board .entry) .store)) (Ask.LastBefore u t) a (T·Table .meaning (now (board .exit) .table)) (S·Store .holding (now (board .exit) .store)) ⌝ }
 {
     let (found, rounds) = board.last_before(u, t);
     of_found(found, rounds)
 }
 
-// Makes the call on the board.
-pub fn step<T: Table, S: Store>(board: &mut Board<T, S>, ask: Ask) -> Answer
-    ensures { λ a. ⌜ Step-keeps (T·Table .meaning (now (board .entry) .table)) (S·Store .holding (now (board .entry) .store)) ask a (T·Table .meaning (now (board .exit) .table)) (S·Store .holding (now (board .exit) .store)) ⌝ }
+// Makes the call on the board. A call that writes does so to the slice.
+pub fn step<T: Table, S: Store>(board: &mut Board<T, S>, ask: Ask, slice: &mut [u16]) -> Answer
+    ensures { λ a. ⌜ Step-keeps (T·Table .meaning (now (board .entry) .table)) (S·Store .holding (now (board .entry) .store)) ask (now (slice .entry)) a (now (slice .exit)) (T·Table .meaning (now (board .exit) .table)) (S·Store .holding (now (board .exit) .store)) ⌝ }
 {
     match ask {
         Ask::Place(u, v) => place(board, u, v),

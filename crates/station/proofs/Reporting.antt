@@ -37,7 +37,7 @@ events-more [] [] e s a = refl
 events-more [] (x ∷ answers) e s a = absurd (omega arith)
 events-more (y ∷ steps) [] e s a = absurd (omega arith)
 events-more (None ∷ steps) (x ∷ answers) e s a = events-more steps answers (omega arith) s a
-events-more (Some q ∷ steps) (x ∷ answers) e s a = ap (λ es. record { ask = q; answer = x } ∷ es) (events-more steps answers (omega arith) s a)
+events-more (Some q ∷ steps) (x ∷ answers) e s a = ap (λ es. record { ask = q; given = []; answer = x; left = [] } ∷ es) (events-more steps answers (omega arith) s a)
 
 unknown-more : (steps : List (Option Ask)) (answers : List Answer) → length answers ≡ length steps → (s : Option Ask) (a : Answer)
     → Unknown-refused steps answers → Unknown-refused (s ∷ []) (a ∷ []) → Unknown-refused (steps ++ s ∷ []) (answers ++ a ∷ [])
@@ -91,7 +91,7 @@ module _ (b : Limits) (file old : List ℕ) where
     -- the answer is small, so that its line has at most 24 bytes
     taken-small : (s : Option Ask) (a : Answer) (m′ : Meaning) (h′ : Holding) → Step-taken m h s a m′ h′ → Small a
     taken-small None a m′ h′ t = subst Small (sym (t .0)) tt
-    taken-small (Some q) a m′ h′ t = answered-small b (standing before-it) (g .stands .sound) few q a (t .keeps b (standing before-it) (g .stands) .0)
+    taken-small (Some q) a m′ h′ t = answered-small b (standing before-it) (g .stands .sound) few q [] a [] (t .keeps b (standing before-it) (g .stands) .0)
 
     abbrev More : Option Ask → Answer → Meaning → Holding → Type 0
     More s a m′ h′ =
@@ -107,8 +107,8 @@ module _ (b : Limits) (file old : List ℕ) where
     more (Some q) a m′ h′ t =
         let k = t .keeps b (standing before-it) (g .stands) in (
           tt,
-          law-more b before-it (record { ask = q; answer = a }) (g .law) (k .0) (upright b _ (k .1 .sound)),
-          subst (λ V. Stands b V m′ h′) (sym (standing-snoc [] before-it (record { ask = q; answer = a }))) (k .1),
+          law-more b before-it (record { ask = q; given = []; answer = a; left = [] }) (g .law) (k .0) (upright b _ (k .1 .sound)),
+          subst (λ V. Stands b V m′ h′) (sym (standing-snoc [] before-it (record { ask = q; given = []; answer = a; left = [] }))) (k .1),
         )
 
     pub going-more : (a : Answer) (m′ : Meaning) (h′ : Holding) (out′ : List ℕ) (at′ : ℕ) → i < 9999 → Step-taken m h (step-at file i) a m′ h′ → Pours out at (line (i + 1) a) out′ at′

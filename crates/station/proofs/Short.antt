@@ -25,7 +25,7 @@ use Rattle.board.specs.Standing.{Limits, Waits, Sound, lengths, Nearest, Found,
 use Rattle.runs.specs.declared.calls.Ask.{Ask}
 use Rattle.runs.specs.declared.calls.Ask.the-variants.{Place, Remove, Before as Is-before, FirstAfter, LastBefore}
 use Rattle.runs.specs.declared.calls.Answer.{Answer}
-use Rattle.runs.specs.declared.calls.Answer.the-variants.{Done, Refused, Truth, Found as Found-at}
+use Rattle.runs.specs.declared.calls.Answer.the-variants.{Pending, Done, Refused, Truth, Found as Found-at}
 use Rattle.runs.specs.Law.{Answered, done-answer, truth-answer, found-answer}
 use Rattle.station.specs.Report.{returned-number, next-number, move-text, finding-text, line, first-line}
 
@@ -44,6 +44,7 @@ number-small BadSize = omega arith
 number-small NoSuchKind = omega arith
 
 returned-small : (a : Answer) → returned-number a < 100
+returned-small Pending = omega arith
 returned-small Done = omega arith
 returned-small (Refused e) = number-small e
 returned-small (Truth y c) = omega arith
@@ -60,6 +61,7 @@ five-digits n l = length-decimal-le 5 n (omega arith) (omega arith) (omega arith
 
 -- the answer holds a 16-bit code, and fewer than 100 rounds
 abbrev pub Small : Answer → Type 0
+Small Pending = Unit {0}
 Small Done = Unit {0}
 Small (Refused e) = Unit {0}
 Small (Truth y c) = c < 100
@@ -67,6 +69,7 @@ Small (Found-at None c) = c < 100
 Small (Found-at (Some u) c) = (u < 65536) × (c < 100)
 
 finding-short : (a : Answer) → Small a → length (finding-text a) ≤ 16
+finding-short Pending s = omega arith
 finding-short Done s = omega arith
 finding-short (Refused e) s = omega arith
 finding-short (Truth y c) s = omega (arith, two-digits c s)
@@ -105,9 +108,9 @@ module _ (b : Limits) (W : Waits) (h : Sound b W) (few : b .shuttles ≤ 16) whe
       subst (λ x. Small (Found-at x c)) (sym (f .1 .1)) (coded-small w u t c (on .0) (f .1 .0) (f .1 .2) (f .2 .1))
   found-small w u t (Err e) c f = tt
 
-  pub answered-small : (q : Ask) (a : Answer) → Answered b W q a → Small a
-  answered-small (Place u v) a x = subst Small (sym (x .1)) (done-small (x .0))
-  answered-small (Remove u v) a x = subst Small (sym x) (done-small (remove-gives b W u v))
-  answered-small (Is-before u v) a x = subst Small (sym (x .2)) (truth-small u v (x .0) (x .1) (x .3))
-  answered-small (FirstAfter u t) a x = subst Small (sym (x .2)) (found-small After u t (x .0) (x .1) (x .3))
-  answered-small (LastBefore u t) a x = subst Small (sym (x .2)) (found-small Ahead u t (x .0) (x .1) (x .3))
+  pub answered-small : (q : Ask) (old : List ℕ) (a : Answer) (new : List ℕ) → Answered b W q old a new → Small a
+  answered-small (Place u v) old a new x = subst Small (sym (x .0 .1)) (done-small (x .0 .0))
+  answered-small (Remove u v) old a new x = subst Small (sym (x .0)) (done-small (remove-gives b W u v))
+  answered-small (Is-before u v) old a new x = subst Small (sym (x .0 .2)) (truth-small u v (x .0 .0) (x .0 .1) (x .0 .3))
+  answered-small (FirstAfter u t) old a new x = subst Small (sym (x .0 .2)) (found-small After u t (x .0 .0) (x .0 .1) (x .0 .3))
+  answered-small (LastBefore u t) old a new x = subst Small (sym (x .0 .2)) (found-small Ahead u t (x .0 .0) (x .0 .1) (x .0 .3))

@@ -8,7 +8,7 @@ use Rattle.std.specs.declared.option.Option.{Option}
 use Rattle.std.specs.declared.option.Option.the-variants.{Some, None}
 use Rattle.words.specs.Refusals.{number-of}
 use Rattle.runs.specs.declared.calls.Answer.{Answer}
-use Rattle.runs.specs.declared.calls.Answer.the-variants.{Done, Refused, Truth, Found}
+use Rattle.runs.specs.declared.calls.Answer.the-variants.{Pending, Done, Refused, Truth, Found}
 
 abbrev pub blank : ℕ
 blank = 32
@@ -22,6 +22,7 @@ next-number n = blank ∷ decimal n
 
 -- the number that a call returned: 0 when it is done
 abbrev pub returned-number : Answer → ℕ
+returned-number Pending = 0
 returned-number Done = 0
 returned-number (Refused e) = number-of e
 returned-number (Truth y c) = 0
@@ -34,6 +35,7 @@ move-text (Some u) = decimal (u / 4096) ++ (46 ∷ []) ++ decimal (u % 4096)
 
 -- what a question that is taken adds
 abbrev pub finding-text : Answer → List ℕ
+finding-text Pending = []
 finding-text Done = []
 finding-text (Refused e) = []
 finding-text (Truth y c) = (blank ∷ cond y 49 48 ∷ []) ++ next-number c

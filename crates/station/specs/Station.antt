@@ -19,12 +19,12 @@ use Rattle.runs.specs.Law.{Event, Law, Step-keeps}
 use Rattle.station.specs.Edit.{shuttles-of, moves-of, count-of, steps-of, file-check}
 use Rattle.station.specs.Report.{report-of}
 
--- the calls among some steps, with their answers
+-- the calls among some steps, with their answers; none of them has a slice
 abbrev pub events : List (Option Ask) → List Answer → List Event
 events [] answers = []
 events (s ∷ steps) [] = []
 events (None ∷ steps) (a ∷ answers) = events steps answers
-events (Some q ∷ steps) (a ∷ answers) = record { ask = q; answer = a } ∷ events steps answers
+events (Some q ∷ steps) (a ∷ answers) = record { ask = q; given = []; answer = a; left = [] } ∷ events steps answers
 
 -- each step whose kind is not known is refused with 10
 abbrev pub Unknown-refused : List (Option Ask) → List Answer → Type 0
@@ -67,4 +67,4 @@ Station kind file old new r = Answers-by (file-check kind file (length old)) fil
 -- one step on a board
 abbrev pub Step-taken : Meaning → Holding → Option Ask → Answer → Meaning → Holding → Type 0
 Step-taken m h None a m′ h′ = (a ≡ Refused (numbered 10)) × (m′ ≡ m) × (h′ ≡ h)
-Step-taken m h (Some q) a m′ h′ = Step-keeps m h q a m′ h′
+Step-taken m h (Some q) a m′ h′ = Step-keeps m h q [] a [] m′ h′

@@ -1,9 +1,11 @@
 // The call of the planning station.
 ghost use mathlib.Core.Path.{_≡_};
 ghost use mathlib.Core.Bool.{true};
+ghost use mathlib.Core.List.{[]};
 ghost use Prim.Native.Nat.{_+_, _*_, _<_, _≤_};
 ghost use lib.ListN.{length};
 ghost use Rattle.board.specs.Standing.{limits};
+ghost use Rattle.runs.specs.Law.{Step-keeps};
 ghost use Rattle.station.specs.Edit.{well-formed, count-of, step-at};
 ghost use Rattle.station.specs.Station.{Reported, Station, Step-taken};
 use crate::edit::ask_at;
@@ -13,6 +15,7 @@ use crate::lines::put_first_line;
 use crate::lines::put_line;
 use board::board::Board;
 use runs::calls::Answer;
+use runs::calls::Ask;
 use runs::steps::step;
 use stores::loose::Loose;
 use stores::loose::LooseStore;
@@ -23,13 +26,21 @@ use tables::plain::PlainTable;
 use tables::table::Table;
 use words::Refusal;
 
+// Makes a call that has no slice.
+fn make_call<T: Table, S: Store>(board: &mut Board<T, S>, ask: Ask) -> Answer
+    ensures { λ a. ⌜ Step-keeps (T·Table .meaning (now (board .entry) .table)) (S·Store .holding (now (board .entry) .store)) ask [] a [] (T·Table .meaning (now (board .exit) .table)) (S·Store .holding (now (board .exit) .store)) ⌝ }
+{
+    let mut slice: [u16; 0] = [];
+    step(board, ask, &mut slice)
+}
+
 // Makes the call of one step; a step whose kind is not known is refused alone.
 fn take_step<T: Table, S: Store>(board: &mut Board<T, S>, file: &[u8], i: usize) -> Answer
     requires { ⌜ 13 + 6 * i < length (now file) ⌝ ∗ ⌜ i < 65536 ⌝ }
     ensures { λ a. ⌜ Step-taken (T·Table .meaning (now (board .entry) .table)) (S·Store .holding (now (board .entry) .store)) (step-at (now (file .entry)) i) a (T·Table .meaning (now (board .exit) .table)) (S·Store .holding (now (board .exit) .store)) ⌝ }
 {
     match ask_at(file, i) {
-        Some(ask) => step(board, ask),
+        Some(ask) => make_call(board, ask),
         None => Answer::Refused(Refusal::BadForm),
     }
 }
