@@ -12,7 +12,7 @@ use Rattle.order.proofs.Lists.{in-first, in-second}
 use Rattle.order.proofs.Board.{steps-kept}
 
 -- one of the list has the property, or none has
-find : {X : Type 0} (P : X → Type 0) (l : List X) → ((y : X) → In l y → Dec (P y)) → ((y : X) × In l y × P y) ⊎ ((y : X) → In l y → P y → ⊥)
+pub find : {X : Type 0} (P : X → Type 0) (l : List X) → ((y : X) → In l y → Dec (P y)) → ((y : X) × In l y × P y) ⊎ ((y : X) → In l y → P y → ⊥)
 find P [] d = inr (λ y h _. h)
 find {X} P (z ∷ l) d = go (d z (inl refl)) (find P l (λ y h. d y (inr h)))
   where

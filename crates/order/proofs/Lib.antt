@@ -10,3 +10,5 @@ pub mod Settling
 pub mod After
 pub mod Before
 pub mod Cells
+pub mod Sizes
+pub mod Counting

@@ -60,3 +60,8 @@ row s (suc n) = row s n ++ (s, n) ∷ []
 abbrev pub rows : ℕ → Lengths → List Move
 rows zero len = []
 rows (suc k) len = rows k len ++ row k (len k)
+
+-- how many moves the k shuttles have
+abbrev pub total : ℕ → Lengths → ℕ
+total zero len = zero
+total (suc k) len = total k len + len k

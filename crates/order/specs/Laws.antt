@@ -3,9 +3,10 @@ use mathlib.Core.Path.{_≡_}
 use mathlib.Core.Logic.{_↔_}
 use mathlib.Core.Bool.{Bool, true}
 use mathlib.Core.List.{List, [], _∷_}
-use Prim.Native.Nat.{ℕ}
+use Prim.Native.Nat.{ℕ, _*_}
+use lib.ListN.{length}
 use Rattle.order.specs.Lists.{In, Earlier, parted}
-use Rattle.order.specs.Board.{Lengths, Move, Edges, On, Before, Running, Ordered, rows}
+use Rattle.order.specs.Board.{Lengths, Move, Edges, On, Before, Running, Ordered, rows, total}
 
 -- B says of every move whether it is before u
 abbrev pub Decides : ℕ → Lengths → Edges → (Move → Bool) → Move → Type 0
@@ -44,3 +45,11 @@ Starts = (k : ℕ) (len : Lengths) → Running k len [] (rows k len)
 -- where the edges have a running order, a test says what is before u
 abbrev pub Tested : Type 0
 Tested = (k : ℕ) (len : Lengths) (E : Edges) → Ordered k len E → (u : Move) → (B : Move → Bool) × Decides k len E B u
+
+-- a running order has as many moves as the shuttles have together
+abbrev pub Counted : Type 0
+Counted = (k : ℕ) (len : Lengths) (E : Edges) (L : List Move) → Running k len E L → length L ≡ total k len
+
+-- k shuttles of n moves each have k * n
+abbrev pub Uniform : Type 0
+Uniform = (k n : ℕ) → total k (λ _. n) ≡ k * n
