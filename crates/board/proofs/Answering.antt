@@ -26,7 +26,8 @@ use Rattle.questions.specs.Looking.{pick-of, look-of}
 use Rattle.questions.specs.Asking.{coded, up-to, Finding, Asked, Told}
 use Rattle.questions.proofs.Inside.{moves-on, question-on}
 use Rattle.board.specs.Standing.{Limits, Waits, Sound, lengths, meant, Nearest, Rounded, Found, Tells}
-use Rattle.board.proofs.Scans.{last-look, right, right-back}
+use Rattle.running.specs.Calls.{last-look}
+use Rattle.board.proofs.Scans.{right, right-back}
 
 -- a finding on v's shuttle is at or before v exactly where its place is
 up-to-says : (o : Option ℕ) (v : ℕ) → (up-to (coded (v / 4096) o) v ≡ true) ↔ Upto o (v % 4096)
@@ -47,9 +48,9 @@ module _ (b : Limits) (W : Waits) (h : Sound b W) where
   ran Ahead s i t on lt d o c r =
       let e = r .2 in (
         subst (Last-before (b .shuttles) (lengths b) W (s, i) t) (sym (e .4))
-            (finds-back (b .shuttles) (lengths b) W (h .ordered) (last-look b W) (right-back b W h) s i on (r .0) (r .1) (e .0) (e .2) t lt),
+            (finds-back (b .shuttles) (lengths b) W (h .ordered) (last-look (meant b W)) (right-back b W h) s i on (r .0) (r .1) (e .0) (e .2) t lt),
         subst (λ x. x < b .shuttles) (sym (e .1))
-            (bounded-back (b .shuttles) (lengths b) W (h .ordered) (last-look b W) (right-back b W h) s i on (r .0) (r .1) (omega arith) (e .0) (e .3)),
+            (bounded-back (b .shuttles) (lengths b) W (h .ordered) (last-look (meant b W)) (right-back b W h) s i on (r .0) (r .1) (omega arith) (e .0) (e .3)),
       )
 
   -- on a move's own shuttle it is the nearest itself

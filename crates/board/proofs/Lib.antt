@@ -5,3 +5,4 @@ pub mod Answering
 pub mod Placed
 pub mod Removed
 pub mod Keeps
+pub mod Orders

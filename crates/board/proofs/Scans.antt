@@ -7,7 +7,7 @@ use Rattle.std.specs.declared.option.Option.{Option}
 use Rattle.std.specs.declared.result.Result.the-variants.{Ok}
 use Rattle.words.proofs.Checks.{then-ok}
 use Rattle.tables.specs.Meaning.{least-of, last-of}
-use Rattle.tables.specs.Answers.{allowed, last-answer}
+use Rattle.tables.specs.Answers.{allowed}
 use Rattle.tables.specs.Checked.{Inside}
 use Rattle.tables.proofs.Allowed.{allowed-from}
 use Rattle.tables.proofs.Extremes.{least-smallest, last-greatest}
@@ -18,16 +18,13 @@ use Rattle.order.proofs.Cells.{answers, answers-back, placing}
 use Rattle.order.proofs.Ways.{fits}
 use Rattle.questions.specs.declared.rounds.Way.the-variants.{After}
 use Rattle.questions.specs.Looking.{or-none, look-of}
+use Rattle.running.specs.Calls.{last-look}
 use Rattle.board.specs.Standing.{Limits, Waits, Sound, lengths, cells-of, meant}
 
 -- each cell holds the smallest j of all waits s.i -> t.j
 pub keeps-of : (k n : ℕ) (W : Waits) → Keeps k n W (cells-of W)
 keeps-of k n [] = λ s t i ls lt d li b x. x
 keeps-of k n (w ∷ W) = placing k n W (cells-of W) (keeps-of k n W) (w .0) (w .1)
-
--- the last place that the table tells, or none
-abbrev pub last-look : Limits → Waits → Table
-last-look b W s t j = or-none (last-answer (meant b W) s t j)
 
 module _ (b : Limits) (W : Waits) where
   scans : Scans (b .shuttles) (b .moves) (cells-of W) (look-of After (meant b W))
@@ -36,7 +33,7 @@ module _ (b : Limits) (W : Waits) where
       (sym (ap or-none (then-ok (allowed (b .shuttles) (b .moves) s t i) (Ok (least-of (cells-of W s t) i (b .moves))) (sym (allowed-from (b .shuttles) (b .moves) s t i (record { from-below = ls; to-below = lt; apart = d; place-below = li }))))))
       (least-smallest (b .moves) (cells-of W s t) i)
 
-  scans-back : Scans-back (b .shuttles) (b .moves) (cells-of W) (last-look b W)
+  scans-back : Scans-back (b .shuttles) (b .moves) (cells-of W) (last-look (meant b W))
   scans-back s t j ls lt d lj =
       subst (Greatest (b .moves) (cells-of W s t) j)
       (sym (ap or-none (then-ok (allowed (b .shuttles) (b .moves) s t j) (Ok (last-of (cells-of W s t) j (b .moves))) (sym (allowed-from (b .shuttles) (b .moves) s t j (record { from-below = ls; to-below = lt; apart = d; place-below = lj }))))))
@@ -51,7 +48,7 @@ module _ (b : Limits) (W : Waits) where
         answers (b .shuttles) (b .moves) (lengths b) W short (fits (b .shuttles) (lengths b) W (h .ordered .0) (h .ordered .1)) (cells-of W) (look-of After (meant b W))
         (keeps-of (b .shuttles) (b .moves) W) scans
 
-    pub right-back : Right-back (b .shuttles) (lengths b) W (last-look b W)
+    pub right-back : Right-back (b .shuttles) (lengths b) W (last-look (meant b W))
     right-back =
-        answers-back (b .shuttles) (b .moves) (lengths b) W short (fits (b .shuttles) (lengths b) W (h .ordered .0) (h .ordered .1)) (cells-of W) (last-look b W)
+        answers-back (b .shuttles) (b .moves) (lengths b) W short (fits (b .shuttles) (lengths b) W (h .ordered .0) (h .ordered .1)) (cells-of W) (last-look (meant b W))
         (keeps-of (b .shuttles) (b .moves) W) scans-back

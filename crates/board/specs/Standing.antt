@@ -3,7 +3,7 @@ use mathlib.Core.Path.{_≡_}
 use mathlib.Core.Logic.{_⊎_, _↔_}
 use mathlib.Core.Bool.{Bool, true, false, cond, _&&_, _||_}
 use mathlib.Core.List.{List, [], _∷_}
-use Prim.Native.Nat.{ℕ, _/_, _%_, _<_, _≤_}
+use Prim.Native.Nat.{ℕ, _*_, _/_, _%_, _<_, _≤_}
 use lib.Dec.{eqb, ltb}
 use lib.ListN.{length}
 use Rattle.std.specs.declared.option.Option.{Option}
@@ -21,9 +21,11 @@ use Rattle.order.specs.Cells.{Cell-of, placed}
 use Rattle.order.specs.Rounds.{Table, First-after, Last-before, Ran}
 use Rattle.questions.specs.declared.rounds.Way.{Way}
 use Rattle.questions.specs.declared.rounds.Way.the-variants.{After, Before as Ahead}
-use Rattle.questions.specs.Checks.{moves-check, wait-check, question-check}
+use Rattle.questions.specs.Checks.{move-check, moves-check, wait-check, question-check}
 use Rattle.questions.specs.Looking.{pick-of, look-of}
 use Rattle.questions.specs.Asking.{coded}
+use Rattle.running.specs.Orders.{moves-of, Lists, Pushes}
+use Rattle.running.specs.Calls.{Fills}
 
 -- waits: pairs of moves, the first of which must be done before the second
 abbrev pub Waits : Type 0
@@ -169,6 +171,29 @@ Tells b W u v (Ok y) c =
     × Rounded After b W u (v / 4096) c
 Tells b W u v (Err e) c = (Err e ≡ moves-check (b .shuttles) (b .moves) u v) × (c ≡ 0)
 
+-- running orders
+
+-- the list that takes the lowest ready shuttle each time is written to the front of the slice: a running order, and the only such list
+abbrev pub Listed : Limits → Waits → List ℕ → List ℕ → Result ℕ Refusal → Type 0
+Listed b W old new r =
+    Fills (b .shuttles * b .moves)
+    (λ L. Lists (b .shuttles) (lengths b) W L × Running (b .shuttles) (lengths b) W L × ((M : List Move) → Lists (b .shuttles) (lengths b) W M → M ≡ L)) old new r
+
+-- where v is checked: refused so, or the list that does so with the moves before v first is written
+abbrev pub Pushed-by : Result Unit Refusal → Limits → Waits → ℕ → List ℕ → List ℕ → Result ℕ Refusal → Type 0
+Pushed-by (Ok x) b W v old new r =
+    Fills (b .shuttles * b .moves)
+    (λ L. Pushes (b .shuttles) (lengths b) W (move-of v) L × Running (b .shuttles) (lengths b) W L
+    × ((M : List Move) → Pushes (b .shuttles) (lengths b) W (move-of v) M → M ≡ L)) old new r
+Pushed-by (Err e) b W v old new r = (r ≡ Err e) × (new ≡ old)
+
+abbrev pub Pushed : Limits → Waits → ℕ → List ℕ → List ℕ → Result ℕ Refusal → Type 0
+Pushed b W v old new r = Pushed-by (move-check (b .shuttles) (b .moves) v) b W v old new r
+
+-- y says whether the codes are a running order of the waits
+abbrev pub Tested : Limits → Waits → List ℕ → Bool → Type 0
+Tested b W codes y = (y ≡ true) ↔ Running (b .shuttles) (lengths b) W (moves-of codes)
+
 -- what a call says of all waits that stand on its board
 
 abbrev pub Place-keeps : Meaning → Holding → (u v : ℕ) → Result Unit Refusal → Meaning → Holding → Type 0
@@ -183,3 +208,12 @@ Finds-so w m h u t a c = (b : Limits) (W : Waits) → Stands b W m h → Found w
 
 abbrev pub Tells-so : Meaning → Holding → (u v : ℕ) → Result Bool Refusal → ℕ → Type 0
 Tells-so m h u v a c = (b : Limits) (W : Waits) → Stands b W m h → Tells b W u v a c
+
+pub record Lists-at (m : Meaning) (h : Holding) (old new : List ℕ) (r : Result ℕ Refusal) : Type 0 where
+  pub at : (b : Limits) (W : Waits) → Stands b W m h → Listed b W old new r
+
+pub record Pushes-at (m : Meaning) (h : Holding) (v : ℕ) (old new : List ℕ) (r : Result ℕ Refusal) : Type 0 where
+  pub at : (b : Limits) (W : Waits) → Stands b W m h → Pushed b W v old new r
+
+pub record Tests-at (m : Meaning) (h : Holding) (codes : List ℕ) (y : Bool) : Type 0 where
+  pub at : (b : Limits) (W : Waits) → Stands b W m h → Tested b W codes y

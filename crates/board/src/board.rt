@@ -4,13 +4,16 @@ ghost use mathlib.Core.List.{[]};
 ghost use Rattle.words.specs.Refusals.{passed, Left-alone};
 ghost use Rattle.questions.specs.Checks.{wait-check};
 ghost use Rattle.board.specs.Steps.{Closes, Judged, Placing, Removing};
-ghost use Rattle.board.specs.Standing.{Stands, limits, Place-keeps, Remove-keeps, Finds-so, Tells-so};
+ghost use Rattle.board.specs.Standing.{Stands, limits, Place-keeps, Remove-keeps, Finds-so, Tells-so, Lists-at, Pushes-at, Tests-at};
 use crate::cells::put_earlier;
 use crate::cells::set_cell;
 use questions::asking::nearest;
 use questions::asking::precedes;
 use questions::checks::check_wait;
 use questions::rounds::Way;
+use running::list;
+use running::push;
+use running::test;
 use stores::store::Store;
 use tables::table::Table;
 use words::Refusal;
@@ -111,6 +114,24 @@ impl<T: Table, S: Store> Board<T, S> {
         nearest(&self.table, way, u, t)
     }
 
+    fn list_moves(&self, out: &mut [u16]) -> Result<usize, Refusal>
+        ensures { λ r. ⌜ Lists-at (T·Table .meaning (now (self .entry) .table)) (S·Store .holding (now (self .entry) .store)) (now (out .entry)) (now (out .exit)) r ⌝ }
+    {
+        list(&self.table, out)
+    }
+
+    fn push_move(&self, v: u16, out: &mut [u16]) -> Result<usize, Refusal>
+        ensures { λ r. ⌜ Pushes-at (T·Table .meaning (now (self .entry) .table)) (S·Store .holding (now (self .entry) .store)) v (now (out .entry)) (now (out .exit)) r ⌝ }
+    {
+        push(&self.table, v, out)
+    }
+
+    fn test_moves(&self, codes: &[u16]) -> bool
+        ensures { λ r. ⌜ Tests-at (T·Table .meaning (now (self .entry) .table)) (S·Store .holding (now (self .entry) .store)) (now (codes .entry)) r ⌝ }
+    {
+        test(&self.table, codes)
+    }
+
     // A board without waits: its table and its store are wiped, whatever they held.
     pub fn make(table: T, store: S) -> Board<T, S>
         ensures { λ r. ⌜ Stands (limits (T·Table .meaning table) (S·Store .holding store)) [] (T·Table .meaning (r .table)) (S·Store .holding (r .store)) ⌝ }
@@ -153,5 +174,26 @@ impl<T: Table, S: Store> Board<T, S> {
         ensures { λ r. ⌜ Finds-so Way.Before (T·Table .meaning (now (self .entry) .table)) (S·Store .holding (now (self .entry) .store)) u t (r .0) (r .1) ⌝ }
     {
         self.find(Way::Before, u, t)
+    }
+
+    // Writes a running order to the front of the slice, each time from the lowest shuttle whose next move is ready, and returns how many codes it wrote.
+    pub fn list(&self, out: &mut [u16]) -> Result<usize, Refusal>
+        ensures { λ r. ⌜ Lists-at (T·Table .meaning (now (self .entry) .table)) (S·Store .holding (now (self .entry) .store)) (now (out .entry)) (now (out .exit)) r ⌝ }
+    {
+        self.list_moves(out)
+    }
+
+    // The same with the moves before v first, v among them, and then with the rest.
+    pub fn push(&self, v: u16, out: &mut [u16]) -> Result<usize, Refusal>
+        ensures { λ r. ⌜ Pushes-at (T·Table .meaning (now (self .entry) .table)) (S·Store .holding (now (self .entry) .store)) v (now (out .entry)) (now (out .exit)) r ⌝ }
+    {
+        self.push_move(v, out)
+    }
+
+    // Whether the codes are a running order.
+    pub fn test(&self, codes: &[u16]) -> bool
+        ensures { λ r. ⌜ Tests-at (T·Table .meaning (now (self .entry) .table)) (S·Store .holding (now (self .entry) .store)) (now (codes .entry)) r ⌝ }
+    {
+        self.test_moves(codes)
     }
 }

@@ -9,8 +9,38 @@ mod tests {
 
     // Three shuttles, three moves, four steps: 0.1 -> 1.1, 1.2 -> 2.0, what follows 0.0 on shuttle 2, and 2.1 -> 0.1.
     const WORKED: [u8; 32] = [
-        0, 3, 0, 3, 0, 4, 0, 8, 0, 1, 0, 1, 16, 1, 0, 1, 16, 2, 32, 0, 0, 4, 0, 0, 0, 2, 0, 1, 32,
-        1, 0, 1,
+        0,
+        3,
+        0,
+        3,
+        0,
+        4,
+        0,
+        8,
+        0,
+        1,
+        0,
+        1,
+        16,
+        1,
+        0,
+        1,
+        16,
+        2,
+        32,
+        0,
+        0,
+        4,
+        0,
+        0,
+        0,
+        2,
+        0,
+        1,
+        32,
+        1,
+        0,
+        1,
     ];
 
     // What the call returns for the worked file with one number set, and a report that has room.
@@ -40,7 +70,9 @@ mod tests {
 
     // Whether the text stands at the byte `at`.
     fn stands(report: &[u8], at: usize, text: &[u8]) -> bool {
-        at <= report.len() && report.len() - at >= text.len() && &report[at..at + text.len()] == text
+        at <= report.len()
+            && report.len() - at >= text.len()
+            && &report[at..at + text.len()] == text
     }
 
     #[test]
@@ -55,7 +87,9 @@ mod tests {
     fn damaged_files() -> Result<(), Fail> {
         let mut report = [7u8; 120];
         check_eq(soguapy_report(0, &WORKED[0..7], &mut report), REFUSED + 10).note("too short")?;
-        check_eq(soguapy_report(0, &WORKED[0..31], &mut report), REFUSED + 10).note("one byte less")?;
+        check_eq(soguapy_report(0, &WORKED[0..31], &mut report), REFUSED + 10).note(
+            "one byte less",
+        )?;
         check_eq(with_number(4, 3), REFUSED + 10).note("a step less than there are")?;
         check_eq(with_number(4, 5), REFUSED + 10).note("a step more than there are")?;
         check_eq(with_number(6, 9), REFUSED + 10).note("another offset")?;
@@ -63,7 +97,9 @@ mod tests {
         check_eq(with_number(0, 5), REFUSED + 11).note("five shuttles")?;
         check_eq(with_number(2, 0), REFUSED + 11).note("no move")?;
         check_eq(with_number(2, 257), REFUSED + 11).note("257 moves")?;
-        check_eq(soguapy_report(1, &WORKED[0..7], &mut report), REFUSED + 12).note("another kind, before the form")?;
+        check_eq(soguapy_report(1, &WORKED[0..7], &mut report), REFUSED + 12).note(
+            "another kind, before the form",
+        )?;
         check_eq(report[0], 7).note("a refusal writes nothing")
     }
 
@@ -117,7 +153,10 @@ mod tests {
 
     // Whether the report ends with the text, and the byte behind it is as it was.
     fn ends(report: &[u8], length: usize, text: &[u8]) -> bool {
-        length < report.len() && length >= text.len() && report[length] == 7 && stands(report, length - text.len(), text)
+        length < report.len()
+            && length >= text.len()
+            && report[length] == 7
+            && stands(report, length - text.len(), text)
     }
 
     #[test]
@@ -130,7 +169,10 @@ mod tests {
         check(stands(report.as_slice(), 0, b"4 256 2729\n1 0 - 1\n2 0 - 1\n"))?;
         check(ends(report.as_slice(), length, b"2728 0 - 1\n2729 0 - 1\n"))?;
         put(file.as_mut_slice(), 4, 2730);
-        check_eq(soguapy_report(0, file.as_slice(), report.as_mut_slice()), REFUSED + 10).note("too long")
+        check_eq(
+            soguapy_report(0, file.as_slice(), report.as_mut_slice()),
+            REFUSED + 10,
+        ).note("too long")
     }
 
     #[test]
@@ -139,6 +181,10 @@ mod tests {
         put_waits(file.as_mut_slice());
         let mut report = Vec::from_elem(rt.alloc(), 7u8, 24696)?;
         let length = soguapy_report(0, file.as_slice(), report.as_mut_slice()) as usize;
-        check(ends(report.as_slice(), length, b"1024 0\n1025 7\n1026 5\n1027 0\n1028 0\n"))
+        check(ends(
+            report.as_slice(),
+            length,
+            b"1024 0\n1025 7\n1026 5\n1027 0\n1028 0\n",
+        ))
     }
 }

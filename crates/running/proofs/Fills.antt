@@ -126,9 +126,10 @@ module _ (m : Meaning) (few : m .shuttles ≤ 16) (short : m .moves ≤ 4096) (b
   pub kept-more : length d ≡ 16 → (t : ℕ) → Nexts m d b (Some t) → Kept m b (moves-of (take (p + 1) (set out p (t * 4096 + getD d t 0)))) (set d t (getD d t 0 + 1))
   kept-more len t nx W v cl =
       let s = h W v cl in
-      subst (λ P. State m W P (set d t (getD d t 0 + 1)) × Each-by (First-of (m .shuttles) (λ _. m .moves) W (Within b)) P) (sym written)
-      (state-more m W v (moves-of (take p out)) d (s .0) len few (t, getD d t 0) (next-follows m d b t nx),
-        each-more (First-of (m .shuttles) (λ _. m .moves) W (Within b)) (moves-of (take p out)) (t, getD d t 0) (s .1) (first-of m W v few short (moves-of (take p out)) d (s .0) b cl t nx))
+      subst (λ P. State m W P (set d t (getD d t 0 + 1)) × Each-by (First-of (m .shuttles) (λ _. m .moves) W (Within b)) P) (sym written) (
+        state-more m W v (moves-of (take p out)) d (s .0) len few (t, getD d t 0) (next-follows m d b t nx),
+        each-more (First-of (m .shuttles) (λ _. m .moves) W (Within b)) (moves-of (take p out)) (t, getD d t 0) (s .1) (first-of m W v few short (moves-of (take p out)) d (s .0) b cl t nx),
+      )
     where
       code : move-of (t * 4096 + getD d t 0) ≡ (t, getD d t 0)
       code =
@@ -154,7 +155,7 @@ module _ (m : Meaning) (few : m .shuttles ≤ 16) (short : m .moves ≤ 4096) (b
   turn-more t nx d′ out′ e f =
       subst (λ z. Turn m b total old z d′ (p + 1)) (sym f)
       (subst (λ z. Turn m b total old (set out p (t * 4096 + getD d t 0)) z (p + 1)) (sym e)
-        (length-set d t _ ∙ h .0, length-set out p _ ∙ h .1, drop-set-lt total out p _ l ∙ h .2, kept-more m few short b d out p (omega (arith, h .1)) (h .3) (h .0) t nx))
+      (length-set d t _ ∙ h .0, length-set out p _ ∙ h .1, drop-set-lt total out p _ l ∙ h .2, kept-more m few short b d out p (omega (arith, h .1)) (h .3) (h .0) t nx))
 
   pub turn-never : total ≡ m .shuttles * m .moves → Nexts m d b None → (d′ out′ : List ℕ) → d′ ≡ d → out′ ≡ out → Turn m b total old out′ d′ (p + 1)
   turn-never eq nx d′ out′ e f =

@@ -27,8 +27,8 @@ module _ (m : Meaning) (W : Edges) (v : Serves m W) (few : m .shuttles ≤ 16) (
   test-stops p l st no′ R =
       let h = running-ready (m .shuttles) (λ _. m .moves) W (moves-of codes) R p (omega (arith, length-map codes move-of)) in
       no′ (ready-iff m W v (moves-of (take p codes)) d st (move-of (getD codes p 0)) .0
-        (subst (λ P. Ready (m .shuttles) (λ _. m .moves) W P (move-of (getD codes p 0))) (take-map move-of p codes)
-          (subst (Ready (m .shuttles) (λ _. m .moves) W (take p (moves-of codes))) (getD-map move-of codes p 0 (0, 0) l) h)))
+      (subst (λ P. Ready (m .shuttles) (λ _. m .moves) W P (move-of (getD codes p 0))) (take-map move-of p codes)
+      (subst (Ready (m .shuttles) (λ _. m .moves) W (take p (moves-of codes))) (getD-map move-of codes p 0 (0, 0) l) h)))
 
   pub test-ends : (p : ℕ) → length codes ≤ p → length codes ≡ m .shuttles * m .moves → State m W (moves-of (take p codes)) d → Running (m .shuttles) (λ _. m .moves) W (moves-of codes)
   test-ends p l e st =

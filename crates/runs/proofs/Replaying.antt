@@ -57,7 +57,7 @@ module _ (b : Limits) (xs ys : List Call) (i : ℕ) (x d : Call) (lx : i < lengt
       let s = k′ .step .keeps b (standing es) (g .stands) in
       let n : length (take i xs) ≡ length (take i ys) = length-take i xs ∙ omega (arith, length-take i ys) in
       let e : told (take (i + 1) xs) (take (i + 1) (set ys i d)) ≡ es ++ event (getD xs i x) d ∷ [] =
-          ap (λ l. told l (take (i + 1) (set ys i d))) (take-more xs i x lx) ∙ ap (told (take i xs ++ getD xs i x ∷ [])) (take-more-set ys i d ly) ∙ told-more (take i xs) (take i ys) n (getD xs i x) d in
+      ap (λ l. told l (take (i + 1) (set ys i d))) (take-more xs i x lx) ∙ ap (told (take i xs ++ getD xs i x ∷ [])) (take-more-set ys i d ly) ∙ told-more (take i xs) (take i ys) n (getD xs i x) d in
       record {
         asks = λ j y l. ⊎-elim (λ (f : j < i). ask-front j y f) (λ (f : i ≤ j). ask-here j y (omega arith)) (cases-lt j i);
         law = subst (Law b) (sym e) (law-more b es (event (getD xs i x) d) (g .law) (s .0) (upright b _ (s .1 .sound)));

@@ -14,11 +14,11 @@ use Rattle.tables.specs.Meaning.{Meaning}
 use Rattle.stores.specs.Holding.{Holding}
 use Rattle.order.specs.Board.{Move, On, Before, Ordered}
 use Rattle.questions.specs.declared.rounds.Way.the-variants.{After, Before as Ahead}
-use Rattle.board.specs.Standing.{Limits, Waits, Stands, lengths, without, Placed, Circled, remove-gives, Found, Tells, Always-earlier}
+use Rattle.board.specs.Standing.{Limits, Waits, Stands, lengths, without, Placed, Circled, remove-gives, Found, Tells, Always-earlier, Listed, Pushed, Tested}
 use Rattle.runs.specs.declared.calls.Ask.{Ask}
-use Rattle.runs.specs.declared.calls.Ask.the-variants.{Place, Remove, Before as Is-before, FirstAfter, LastBefore}
+use Rattle.runs.specs.declared.calls.Ask.the-variants.{Place, Remove, Before as Is-before, FirstAfter, LastBefore, List as List-moves, Push as Push-move, Test as Test-order}
 use Rattle.runs.specs.declared.calls.Answer.{Answer}
-use Rattle.runs.specs.declared.calls.Answer.the-variants.{Pending, Done, Refused, Truth, Found as Found-at}
+use Rattle.runs.specs.declared.calls.Answer.the-variants.{Pending, Done, Refused, Truth, Found as Found-at, Listed as Listed-as, Tested as Tested-as}
 
 -- results as answers
 
@@ -34,6 +34,10 @@ abbrev pub found-answer : Result (Option ℕ) Refusal → ℕ → Answer
 found-answer (Ok o) c = Found-at o c
 found-answer (Err e) c = Refused e
 
+abbrev pub count-answer : Result ℕ Refusal → Answer
+count-answer (Ok n) = Listed-as n
+count-answer (Err e) = Refused e
+
 -- the first waits where the call is done, and else the second
 abbrev pub where-done : Answer → Waits → Waits → Waits
 where-done Pending V W = W
@@ -41,6 +45,8 @@ where-done Done V W = V
 where-done (Refused e) V W = W
 where-done (Truth y c) V W = W
 where-done (Found-at o c) V W = W
+where-done (Listed-as n) V W = W
+where-done (Tested-as y) V W = W
 
 -- the waits that stand after a call, from the call and its answer alone: a placement done adds its wait, a removal done takes it out, nothing else changes them
 abbrev pub after-call : Waits → Ask → Answer → Waits
@@ -49,6 +55,9 @@ after-call W (Remove u v) a = where-done a (without W (move-of u) (move-of v)) W
 after-call W (Is-before u v) a = W
 after-call W (FirstAfter u t) a = W
 after-call W (LastBefore u t) a = W
+after-call W List-moves a = W
+after-call W (Push-move v) a = W
+after-call W Test-order a = W
 
 -- the answer to a call where the waits W stand, and what it leaves in its slice
 abbrev pub Answered : Limits → Waits → Ask → List ℕ → Answer → List ℕ → Type 0
@@ -57,6 +66,9 @@ Answered b W (Remove u v) old a new = (a ≡ done-answer (remove-gives b W u v))
 Answered b W (Is-before u v) old a new = ((r : Result Bool Refusal) × (c : ℕ) × (a ≡ truth-answer r c) × Tells b W u v r c) × (new ≡ old)
 Answered b W (FirstAfter u t) old a new = ((r : Result (Option ℕ) Refusal) × (c : ℕ) × (a ≡ found-answer r c) × Found After b W u t r c) × (new ≡ old)
 Answered b W (LastBefore u t) old a new = ((r : Result (Option ℕ) Refusal) × (c : ℕ) × (a ≡ found-answer r c) × Found Ahead b W u t r c) × (new ≡ old)
+Answered b W List-moves old a new = (r : Result ℕ Refusal) × (a ≡ count-answer r) × Listed b W old new r
+Answered b W (Push-move v) old a new = (r : Result ℕ Refusal) × (a ≡ count-answer r) × Pushed b W v old new r
+Answered b W Test-order old a new = ((y : Bool) × (a ≡ Tested-as y) × Tested b W old y) × (new ≡ old)
 
 -- a call, what its slice held before, its answer, and what its slice holds afterwards
 pub record Event : Type 0 where

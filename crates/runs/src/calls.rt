@@ -1,4 +1,4 @@
-// The calls of a board as values, and what they answer.
+// The calls of a board as values, and what they answer. A list and a push write to their slice, a test reads it.
 use words::Refusal;
 
 #[derive(Clone, Copy)]
@@ -8,6 +8,9 @@ pub enum Ask {
     Before(u16, u16),
     FirstAfter(u16, u16),
     LastBefore(u16, u16),
+    List,
+    Push(u16),
+    Test,
 }
 
 // What a call answers; nothing yet where it has not been made. A question that is taken adds its rounds; one that is refused has none.
@@ -18,6 +21,8 @@ pub enum Answer {
     Refused(Refusal),
     Truth(bool, u32),
     Found(Option<u16>, u32),
+    Listed(usize),
+    Tested(bool),
 }
 
 // A call of a run, with a slice of its own, and its answer once it is made.

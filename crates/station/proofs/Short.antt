@@ -23,10 +23,10 @@ use Rattle.questions.specs.Asking.{coded}
 use Rattle.questions.proofs.Inside.{question-on}
 use Rattle.board.specs.Standing.{Limits, Waits, Sound, lengths, Nearest, Found, Tells, remove-gives}
 use Rattle.runs.specs.declared.calls.Ask.{Ask}
-use Rattle.runs.specs.declared.calls.Ask.the-variants.{Place, Remove, Before as Is-before, FirstAfter, LastBefore}
+use Rattle.runs.specs.declared.calls.Ask.the-variants.{Place, Remove, Before as Is-before, FirstAfter, LastBefore, List as List-moves, Push as Push-move, Test as Test-order}
 use Rattle.runs.specs.declared.calls.Answer.{Answer}
-use Rattle.runs.specs.declared.calls.Answer.the-variants.{Pending, Done, Refused, Truth, Found as Found-at}
-use Rattle.runs.specs.Law.{Answered, done-answer, truth-answer, found-answer}
+use Rattle.runs.specs.declared.calls.Answer.the-variants.{Pending, Done, Refused, Truth, Found as Found-at, Listed, Tested}
+use Rattle.runs.specs.Law.{Answered, done-answer, truth-answer, found-answer, count-answer}
 use Rattle.station.specs.Report.{returned-number, next-number, move-text, finding-text, line, first-line}
 
 number-small : (e : Refusal) → number-of e < 100
@@ -49,6 +49,8 @@ returned-small Done = omega arith
 returned-small (Refused e) = number-small e
 returned-small (Truth y c) = omega arith
 returned-small (Found-at o c) = omega arith
+returned-small (Listed n) = omega arith
+returned-small (Tested y) = omega arith
 
 two-digits : (n : ℕ) → n < 100 → length (decimal n) ≤ 2
 two-digits n l = length-decimal-le 2 n (omega arith) (omega arith) (omega arith)
@@ -67,6 +69,8 @@ Small (Refused e) = Unit {0}
 Small (Truth y c) = c < 100
 Small (Found-at None c) = c < 100
 Small (Found-at (Some u) c) = (u < 65536) × (c < 100)
+Small (Listed n) = Unit {0}
+Small (Tested y) = Unit {0}
 
 finding-short : (a : Answer) → Small a → length (finding-text a) ≤ 16
 finding-short Pending s = omega arith
@@ -76,6 +80,8 @@ finding-short (Truth y c) s = omega (arith, two-digits c s)
 finding-short (Found-at None c) s = omega (arith, two-digits c s)
 finding-short (Found-at (Some u) c) s =
     simp length-append (omega (arith, two-digits c (s .1), two-digits (u / 4096) (omega (arith, s .0)), four-digits (u % 4096) (omega arith)))
+finding-short (Listed n) s = omega arith
+finding-short (Tested y) s = omega arith
 
 pub line-short : (i : ℕ) (a : Answer) → i < 10000 → Small a → length (line i a) ≤ 24
 line-short i a l s = simp length-append (omega (arith, four-digits i l, two-digits (returned-number a) (returned-small a), finding-short a s))
@@ -89,6 +95,10 @@ module _ (b : Limits) (W : Waits) (h : Sound b W) (few : b .shuttles ≤ 16) whe
   done-small : (r : Result Unit Refusal) → Small (done-answer r)
   done-small (Ok x) = tt
   done-small (Err e) = tt
+
+  count-small : (r : Result ℕ Refusal) → Small (count-answer r)
+  count-small (Ok n) = tt
+  count-small (Err e) = tt
 
   truth-small : (u v : ℕ) (r : Result Bool Refusal) (c : ℕ) → Tells b W u v r c → Small (truth-answer r c)
   truth-small u v (Ok y) c t = omega (arith, t .3 .1)
@@ -114,3 +124,6 @@ module _ (b : Limits) (W : Waits) (h : Sound b W) (few : b .shuttles ≤ 16) whe
   answered-small (Is-before u v) old a new x = subst Small (sym (x .0 .2)) (truth-small u v (x .0 .0) (x .0 .1) (x .0 .3))
   answered-small (FirstAfter u t) old a new x = subst Small (sym (x .0 .2)) (found-small After u t (x .0 .0) (x .0 .1) (x .0 .3))
   answered-small (LastBefore u t) old a new x = subst Small (sym (x .0 .2)) (found-small Ahead u t (x .0 .0) (x .0 .1) (x .0 .3))
+  answered-small List-moves old a new x = subst Small (sym (x .1)) (count-small (x .0))
+  answered-small (Push-move v) old a new x = subst Small (sym (x .1)) (count-small (x .0))
+  answered-small Test-order old a new x = subst Small (sym (x .0 .1)) tt

@@ -8,7 +8,7 @@ use Rattle.std.specs.declared.option.Option.{Option}
 use Rattle.std.specs.declared.option.Option.the-variants.{Some, None}
 use Rattle.words.specs.Refusals.{number-of}
 use Rattle.runs.specs.declared.calls.Answer.{Answer}
-use Rattle.runs.specs.declared.calls.Answer.the-variants.{Pending, Done, Refused, Truth, Found}
+use Rattle.runs.specs.declared.calls.Answer.the-variants.{Pending, Done, Refused, Truth, Found, Listed, Tested}
 
 abbrev pub blank : ℕ
 blank = 32
@@ -27,6 +27,8 @@ returned-number Done = 0
 returned-number (Refused e) = number-of e
 returned-number (Truth y c) = 0
 returned-number (Found o c) = 0
+returned-number (Listed n) = 0
+returned-number (Tested y) = 0
 
 -- a move as s.i, or - for none
 abbrev pub move-text : Option ℕ → List ℕ
@@ -40,6 +42,8 @@ finding-text Done = []
 finding-text (Refused e) = []
 finding-text (Truth y c) = (blank ∷ cond y 49 48 ∷ []) ++ next-number c
 finding-text (Found o c) = (blank ∷ []) ++ move-text o ++ next-number c
+finding-text (Listed n) = []
+finding-text (Tested y) = []
 
 -- the line of the step with this number
 abbrev pub line : ℕ → Answer → List ℕ
