@@ -1,25 +1,25 @@
 -- The laws of lists made move by move.
 use mathlib.Core.Path.{_≡_, refl, sym, _∙_, ap, subst}
-use mathlib.Core.Logic.{_⊎_, inl, inr, _↔_}
-use mathlib.Core.List.{List, [], _∷_, _++_}
-use Prim.Native.Nat.{ℕ, zero, suc, _+_, _*_, _<_, _≤_}
+use mathlib.Core.Logic.{inl, inr}
+use mathlib.Core.List.{List, _∷_}
+use Prim.Native.Nat.{ℕ, zero, suc, _<_, _≤_}
 use native.Mathlib.Omega.{arith}
 use native.Mathlib.Numerals.{add-one}
-use native.Mathlib.Decide.{decLt, ℕ-discrete}
+use native.Mathlib.Decide.{decLt}
 use lib.ListN.{length, take, getD}
 use lib.Seq.{take-all}
 use Rattle.std.proofs.shelf.Lists.{take-more-same}
 use Rattle.order.specs.Lists.{In, Earlier, there, onward}
 use Rattle.order.specs.Board.{Move, Lengths, Edges, On, Before, Running, Ordered, total, rows}
-use Rattle.order.proofs.Lists.{in-first, in-second}
+use Rattle.order.proofs.Lists.{in-first}
 use Rattle.order.proofs.Board.{along, sound}
 use Rattle.order.proofs.Ways.{fits, on-before}
 use Rattle.order.proofs.Rows.{starts}
 use Rattle.order.proofs.Deciding.{in-dec, same-move}
 use Rattle.order.proofs.Sizes.{no-longer}
-use Rattle.order.proofs.Counting.{uniform, length-rows, counted}
-use Rattle.running.specs.Orders.{Upcoming, Ready, Lowest, Chosen, First-of, Pushed, Each-by, Lists, Pushes, Stepwise, One-list, List-runs, One-push, Push-runs, Push-first}
-use Rattle.running.proofs.Positions.{in-at, at-in, earlier-at, at-earlier, back-in, in-take}
+use Rattle.order.proofs.Counting.{length-rows, counted}
+use Rattle.running.specs.Orders.{Upcoming, Ready, Lowest, Chosen, First-of, Pushed, Each-by, Stepwise, One-list, List-runs, One-push, Push-runs, Push-first}
+use Rattle.running.proofs.Positions.{in-at, at-in, earlier-at, at-earlier, back-in}
 
 abbrev none : Move
 none = (0, 0)
@@ -126,12 +126,15 @@ module _ (k : ℕ) (len : Lengths) (W : Edges) (L : List Move) (h : Each-by (Rea
     follows = λ u v w. ready-behind v u (ready-each e v (fits k len W (o .0) (o .1) u v w .1)) (onward (inr w) (there refl)) (λ g. o .1 .once u (subst (Earlier (o .0) u) (sym g) (o .1 .follows u v w)));
   }
 
+-- a move with nothing missing before it is ready
+pub made-ready : (k : ℕ) (len : Lengths) (W : Edges) (P : List Move) (y : Move) → On k len y → (In P y → ⊥) → ((z : Move) → Before k len W z y → (z ≡ y → ⊥) → In P z) → Ready k len W P y
+made-ready k len W P y on out back = ((on, out, λ i l. back (y .0, i) (along k len W (y .0) i (y .1) (on .0) (omega arith) (on .1)) (λ e. omega (arith, ap (λ m. m .1) e))), back)
+
 pub running-ready : (k : ℕ) (len : Lengths) (W : Edges) (L : List Move) → Running k len W L → Each-by (Ready k len W) L
 running-ready k len W L R p l =
     let x = getD L p none in
-    let on : On k len x = R .only x (at-in none L p l) in
-    let back : (y : Move) → Before k len W y x → (y ≡ x → ⊥) → In (take p L) y = λ y b ne. back-in none L (R .once) p l y (sound k len W L R y x b ne) in
-    ((on, (λ i. R .once x (at-earlier none L p x l i)), λ i g. back (x .0, i) (along k len W (x .0) i (x .1) (on .0) (omega arith) (on .1)) (λ e. omega (arith, ap (λ m. m .1) e))), back)
+    made-ready k len W (take p L) x (R .only x (at-in none L p l)) (λ i. R .once x (at-earlier none L p x l i))
+    (λ y b ne. back-in none L (R .once) p l y (sound k len W L R y x b ne))
 
 pub stepwise : Stepwise
 stepwise k len W o L = (λ R. (counted k len W L R, running-ready k len W L R), λ h. ready-runs k len W L (h .1) o (h .0))

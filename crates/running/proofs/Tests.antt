@@ -1,18 +1,17 @@
 -- The loop of `test`.
-use mathlib.Core.Path.{_≡_, refl, sym, _∙_, ap, subst}
-use mathlib.Core.Logic.{_⊎_, inl, inr, _↔_}
-use mathlib.Core.List.{List, [], _∷_, _++_, map}
-use Prim.Native.Nat.{ℕ, zero, suc, _+_, _*_, _<_, _≤_, _/_, _%_}
+use mathlib.Core.Path.{_≡_, sym, _∙_, subst}
+use mathlib.Core.List.{List}
+use Prim.Native.Nat.{ℕ, _+_, _*_, _<_, _≤_, _/_, _%_}
 use native.Mathlib.Omega.{arith}
 use lib.ListN.{length, take, getD, set}
 use lib.Seq.{take-all}
 use Rattle.std.proofs.shelf.Lists.{map-more, getD-map, take-map, length-map}
-use Rattle.order.specs.Board.{Move, Lengths, Edges, Running, Ordered, total}
+use Rattle.order.specs.Board.{Edges, Running}
 use Rattle.order.proofs.Counting.{counted, uniform}
 use Rattle.running.specs.Orders.{Ready, Each-by, moves-of}
 use Rattle.words.specs.Codes.{move-of}
 use Rattle.tables.specs.Meaning.{Meaning}
-use Rattle.running.specs.Calls.{last-look, Serves}
+use Rattle.running.specs.Calls.{Serves}
 use Rattle.running.specs.Progress.{Follows}
 use Rattle.running.proofs.Laws.{ready-runs, running-ready}
 use Rattle.running.proofs.States.{State, ready-iff, state-more}
@@ -27,8 +26,8 @@ module _ (m : Meaning) (W : Edges) (v : Serves m W) (few : m .shuttles ≤ 16) (
   test-stops p l st no′ R =
       let h = running-ready (m .shuttles) (λ _. m .moves) W (moves-of codes) R p (omega (arith, length-map codes move-of)) in
       no′ (ready-iff m W v (moves-of (take p codes)) d st (move-of (getD codes p 0)) .0
-        (subst (λ P. Ready (m .shuttles) (λ _. m .moves) W P (move-of (getD codes p 0))) (take-map move-of p codes)
-          (subst (Ready (m .shuttles) (λ _. m .moves) W (take p (moves-of codes))) (getD-map move-of codes p 0 (0, 0) l) h)))
+      (subst (λ P. Ready (m .shuttles) (λ _. m .moves) W P (move-of (getD codes p 0))) (take-map move-of p codes)
+      (subst (Ready (m .shuttles) (λ _. m .moves) W (take p (moves-of codes))) (getD-map move-of codes p 0 (0, 0) l) h)))
 
   pub test-ends : (p : ℕ) → length codes ≤ p → length codes ≡ m .shuttles * m .moves → State m W (moves-of (take p codes)) d → Running (m .shuttles) (λ _. m .moves) W (moves-of codes)
   test-ends p l e st =

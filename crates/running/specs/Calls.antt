@@ -35,14 +35,14 @@ Fills c C old new (Err e) = (length old < c) × (_≡_ {A = Result ℕ Refusal} 
 pub record Listed-so (m : Meaning) (old new : List ℕ) (r : Result ℕ Refusal) : Type 0 where
   pub writes : Fills (m .shuttles * m .moves)
       (λ L. (W : Edges) → Serves m W → Lists (m .shuttles) (λ _. m .moves) W L × Running (m .shuttles) (λ _. m .moves) W L
-        × ((M : List Move) → Lists (m .shuttles) (λ _. m .moves) W M → M ≡ L)) old new r
+      × ((M : List Move) → Lists (m .shuttles) (λ _. m .moves) W M → M ≡ L)) old new r
 
 -- where the code v is checked: refused so, or written as `push` of v
 abbrev pub Pushed-by : Result Unit Refusal → Meaning → ℕ → List ℕ → List ℕ → Result ℕ Refusal → Type 0
 Pushed-by (Ok u) m v old new r =
     Fills (m .shuttles * m .moves)
     (λ L. (W : Edges) → Serves m W → Pushes (m .shuttles) (λ _. m .moves) W (move-of v) L × Running (m .shuttles) (λ _. m .moves) W L
-      × ((M : List Move) → Pushes (m .shuttles) (λ _. m .moves) W (move-of v) M → M ≡ L)) old new r
+    × ((M : List Move) → Pushes (m .shuttles) (λ _. m .moves) W (move-of v) M → M ≡ L)) old new r
 Pushed-by (Err e) m v old new r = (r ≡ Err e) × (new ≡ old)
 
 -- whatever waits the table answers for: the list that does so with the moves before v first is written, v among them
