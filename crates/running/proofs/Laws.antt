@@ -25,7 +25,7 @@ abbrev none : Move
 none = (0, 0)
 
 module _ (k : ℕ) (len : Lengths) (W : Edges) where
-  pub same-next : (P : List Move) (x y : Move) → Upcoming k len P x → Upcoming k len P y → x .0 ≡ y .0 → x ≡ y
+  same-next : (P : List Move) (x y : Move) → Upcoming k len P x → Upcoming k len P y → x .0 ≡ y .0 → x ≡ y
   same-next P x y hx hy e =
       elim (decLt (x .1) (y .1)) [
         | yes l ↦ absurd (hx .1 (subst (λ s. In P (s, x .1)) (sym e) (hy .2 (x .1) l)))
@@ -36,7 +36,7 @@ module _ (k : ℕ) (len : Lengths) (W : Edges) where
             ]
       ]
 
-  pub one-lowest : (B : Move → Type 0) (P : List Move) (x y : Move) → Lowest k len W B P x → Lowest k len W B P y → x ≡ y
+  one-lowest : (B : Move → Type 0) (P : List Move) (x y : Move) → Lowest k len W B P x → Lowest k len W B P y → x ≡ y
   one-lowest B P x y hx hy =
       elim (decLt (x .0) (y .0)) [
         | yes l ↦ absurd (hy .2 x l (hx .0) (hx .1))
@@ -47,24 +47,23 @@ module _ (k : ℕ) (len : Lengths) (W : Edges) where
             ]
       ]
 
-  pub as-lowest : (P : List Move) (x : Move) → Chosen k len W P x → Lowest k len W (λ _. Unit {0}) P x
+  as-lowest : (P : List Move) (x : Move) → Chosen k len W P x → Lowest k len W (λ _. Unit {0}) P x
   as-lowest P x h = (tt, h .0, λ y l _ r. h .1 y l r)
 
-  pub one-chosen : (P : List Move) (x y : Move) → Chosen k len W P x → Chosen k len W P y → x ≡ y
+  one-chosen : (P : List Move) (x y : Move) → Chosen k len W P x → Chosen k len W P y → x ≡ y
   one-chosen P x y hx hy = one-lowest (λ _. Unit {0}) P x y (as-lowest P x hx) (as-lowest P y hy)
 
-  pub one-first : (B : Move → Type 0) (P : List Move) (x y : Move) → First-of k len W B P x → First-of k len W B P y → x ≡ y
+  one-first : (B : Move → Type 0) (P : List Move) (x y : Move) → First-of k len W B P x → First-of k len W B P y → x ≡ y
   one-first B P x y (inl hx) (inl hy) = one-lowest B P x y hx hy
   one-first B P x y (inl hx) (inr hy) = absurd (hx .1 .0 .1 (hy .0 x (hx .1 .0 .0) (hx .0)))
   one-first B P x y (inr hx) (inl hy) = absurd (hy .1 .0 .1 (hx .0 y (hy .1 .0 .0) (hy .0)))
   one-first B P x y (inr hx) (inr hy) = one-chosen P x y (hx .1) (hy .1)
 
-  pub first-ready : (B : Move → Type 0) (P : List Move) (x : Move) → First-of k len W B P x → Ready k len W P x
+  first-ready : (B : Move → Type 0) (P : List Move) (x : Move) → First-of k len W B P x → Ready k len W P x
   first-ready B P x (inl h) = h .1
   first-ready B P x (inr h) = h .1 .0
 
 -- a choice that leaves one move at most leaves one list at most
-
 one-by : (C : List Move → Move → Type 0) → ((P : List Move) (x y : Move) → C P x → C P y → x ≡ y) → (L M : List Move) → length L ≡ length M → Each-by C L → Each-by C M → L ≡ M
 one-by C one L M e hl hm = sym (take-all (length L) L (omega arith)) ∙ up-to (length L) (omega arith) ∙ take-all (length L) M (omega arith)
   where
@@ -84,15 +83,14 @@ pub one-push : One-push
 one-push k len W v L M hl hm = one-by (Pushed k len W v) (one-first k len W (λ y. Before k len W y v)) L M (hl .0 ∙ sym (hm .0)) (hl .1) (hm .1)
 
 -- a list in which each is ready
-
 module _ (k : ℕ) (len : Lengths) (W : Edges) (L : List Move) (h : Each-by (Ready k len W) L) where
-  pub ready-on : (x : Move) → In L x → On k len x
+  ready-on : (x : Move) → In L x → On k len x
   ready-on x i = let r = in-at none L x i in subst (On k len) (r .2) (h (r .0) (r .1) .0 .0)
 
-  pub ready-once : (x : Move) → Earlier L x x → ⊥
+  ready-once : (x : Move) → Earlier L x x → ⊥
   ready-once x e = let r = earlier-at none L x x e in h (r .0) (r .1) .0 .1 (subst (In (take (r .0) L)) (sym (r .2)) (r .3))
 
-  pub ready-behind : (x y : Move) → In L x → Before k len W y x → (y ≡ x → ⊥) → Earlier L y x
+  ready-behind : (x y : Move) → In L x → Before k len W y x → (y ≡ x → ⊥) → Earlier L y x
   ready-behind x y i b ne =
       let r = in-at none L x i in
       subst (Earlier L y) (r .2)
@@ -102,7 +100,7 @@ module _ (k : ℕ) (len : Lengths) (W : Edges) (L : List Move) (h : Each-by (Rea
   pub ready-closed : (x y : Move) → In L x → Before k len W y x → In L y
   ready-closed x y i b = elim (same-move y x) [ yes e ↦ subst (In L) (sym e) i | no ne ↦ in-first L y x (ready-behind x y i b ne) ]
 
-  pub ready-each : length L ≡ total k len → (x : Move) → On k len x → In L x
+  ready-each : length L ≡ total k len → (x : Move) → On k len x → In L x
   ready-each e x on =
       elim (in-dec same-move L x) [
         | yes i ↦ i
@@ -127,7 +125,8 @@ module _ (k : ℕ) (len : Lengths) (W : Edges) (L : List Move) (h : Each-by (Rea
   }
 
 -- a move with nothing missing before it is ready
-pub made-ready : (k : ℕ) (len : Lengths) (W : Edges) (P : List Move) (y : Move) → On k len y → (In P y → ⊥) → ((z : Move) → Before k len W z y → (z ≡ y → ⊥) → In P z) → Ready k len W P y
+pub made-ready : (k : ℕ) (len : Lengths) (W : Edges) (P : List Move) (y : Move) → On k len y → (In P y → ⊥)
+    → ((z : Move) → Before k len W z y → (z ≡ y → ⊥) → In P z) → Ready k len W P y
 made-ready k len W P y on out back = ((on, out, λ i l. back (y .0, i) (along k len W (y .0) i (y .1) (on .0) (omega arith) (on .1)) (λ e. omega (arith, ap (λ m. m .1) e))), back)
 
 pub running-ready : (k : ℕ) (len : Lengths) (W : Edges) (L : List Move) → Running k len W L → Each-by (Ready k len W) L

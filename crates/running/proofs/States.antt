@@ -25,8 +25,7 @@ use Rattle.running.proofs.Laws.{ready-closed}
 abbrev none : Move
 none = (0, 0)
 
--- one more
-
+-- a list with one more
 pub each-more : (C : List Move → Move → Type 0) (L : List Move) (x : Move) → Each-by C L → C L x → Each-by C (L ++ x ∷ [])
 each-more C L x h c p l =
     elim (decLt p (length L)) [

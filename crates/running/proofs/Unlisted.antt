@@ -21,7 +21,6 @@ not-dec (yes a) = no (λ f. f a)
 not-dec (no f) = yes f
 
 -- the first of the list that has the property
-
 module _ {X : Type 0} (Q : X → Type 0) (dec : (x : X) → Dec (Q x)) where
   first-in : (l : List X) → ((w : X) → Earlier l w w → ⊥) → (x : X) → In l x → Q x → (y : X) × In l y × Q y × ((z : X) → Earlier l z y → Q z → ⊥)
   first-in [] once x i q = absurd i
