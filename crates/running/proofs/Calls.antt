@@ -1,6 +1,6 @@
 -- `list` and `push` from what is filled.
-use mathlib.Core.Path.{_≡_, refl, sym, _∙_, subst}
-use mathlib.Core.Logic.{inl, inr, _↔_}
+use mathlib.Core.Path.{_≡_, sym, _∙_, ap, subst}
+use mathlib.Core.Logic.{inl, inr}
 use mathlib.Core.List.{List}
 use Prim.Native.Nat.{ℕ, _*_, _<_, _≤_}
 use native.Mathlib.Omega.{arith}
@@ -62,18 +62,22 @@ list-of m few old new (Ok c) h = record {
       λ p l. chosen-of m few W v (take p (front m new)) (getD (front m new) p (0, 0)) (h .4 W v (zero-closed m few W v) p l),
     )
 
-pub pushed-of : (m : Meaning) (v : ℕ) (b old new : List ℕ) (r : Result ℕ Refusal) → passed ≡ move-check (m .shuttles) (m .moves) v → Reach m v b → Filled m b old new r
+-- a and b are the sizes that the table told
+pub pushed-of : (m : Meaning) (v a b : ℕ) → a ≡ m .shuttles → b ≡ m .moves → passed ≡ move-check a b v → (bs old new : List ℕ) (r : Result ℕ Refusal) → Reach m v bs → Filled m bs old new r
     → Pushed-so m v old new r
-pushed-of m v b old new r ok reach h = record { writes = subst (λ a. Pushed-by a m v old new r) ok (by r h) }
+pushed-of m v a b d e c bs old new r reach h = record { writes = subst (λ x. Pushed-by x m v old new r) ok (by r h) }
   where
-    pushes : (c : ℕ) → Filled m b old new (Ok c) → (W : Edges) → Serves m W → Pushes (m .shuttles) (λ _. m .moves) W (move-of v) (front m new)
+    ok : passed ≡ move-check (m .shuttles) (m .moves) v
+    ok = c ∙ ap (λ x. move-check x b v) d ∙ ap (λ y. move-check (m .shuttles) y v) e
+
+    pushes : (c : ℕ) → Filled m bs old new (Ok c) → (W : Edges) → Serves m W → Pushes (m .shuttles) (λ _. m .moves) W (move-of v) (front m new)
     pushes c h W s =
         let on = move-on (m .shuttles) (m .moves) v ok in
         let bd = reach .bounds ok W s in (
           length-front m new (omega (arith, h .1, h .2)),
-          λ p q. taken-of m W s (move-of v) on b bd (take p (front m new)) (getD (front m new) p (0, 0)) (h .4 W s (bounds-closed m W s (move-of v) on b bd) p q),
+          λ p q. taken-of m W s (move-of v) on bs bd (take p (front m new)) (getD (front m new) p (0, 0)) (h .4 W s (bounds-closed m W s (move-of v) on bs bd) p q),
         )
 
-    by : (r : Result ℕ Refusal) → Filled m b old new r → Pushed-by passed m v old new r
+    by : (r : Result ℕ Refusal) → Filled m bs old new r → Pushed-by passed m v old new r
     by (Err e) h = h
     by (Ok c) h = (h .0, h .1, h .2, h .3, λ W s. let L = pushes c h W s in (L, push-runs (m .shuttles) (λ _. m .moves) W (s .1) (move-of v) (front m new) L, λ M l. one-push (m .shuttles) (λ _. m .moves) W (move-of v) M (front m new) l L))

@@ -1,33 +1,22 @@
--- There is such a list.
-use mathlib.Core.Path.{_≡_, refl, sym, _∙_, ap, subst}
-use mathlib.Core.Logic.{_⊎_, inl, inr, _↔_, Dec·and}
+-- There is a list of each rule.
+use mathlib.Core.Path.{_≡_, refl}
+use mathlib.Core.Logic.{_⊎_, inl, inr, Dec·and}
 use mathlib.Core.List.{List, [], _∷_, _++_}
-use Prim.Native.Nat.{ℕ, zero, suc, _+_, _*_, _<_, _≤_}
+use Prim.Native.Nat.{ℕ, zero, suc, _+_, _<_, _≤_}
 use native.Mathlib.Omega.{arith}
 use native.Mathlib.Decide.{decLt}
-use lib.ListN.{length, take, getD, length-append}
-use Rattle.order.specs.Lists.{In, Earlier, there}
-use Rattle.order.specs.Board.{Move, Lengths, Edges, On, Before, Running, Ordered, total, rows}
-use Rattle.order.proofs.Lists.{in-first, reaches-trans}
-use Rattle.order.proofs.Board.{along, sound}
+use lib.ListN.{length, length-append}
+use Rattle.order.specs.Lists.{In}
+use Rattle.order.specs.Board.{Move, Lengths, Edges, On, Before, Ordered, total}
+use Rattle.order.proofs.Lists.{reaches-trans}
 use Rattle.order.proofs.Ways.{on-before}
-use Rattle.order.proofs.Rows.{starts}
-use Rattle.order.proofs.Sizes.{no-longer}
-use Rattle.order.proofs.Counting.{uniform, length-rows}
 use Rattle.order.proofs.Deciding.{find, in-dec, same-move, before-dec}
-use Rattle.running.specs.Orders.{Upcoming, Ready, Lowest, Chosen, First-of, Pushed, Each-by, Lists, Pushes, Some-list, Some-push}
+use Rattle.running.specs.Orders.{Ready, Lowest, Chosen, First-of, Pushed, Each-by, Some-list, Some-push}
 use Rattle.running.proofs.States.{each-more}
-use Rattle.running.proofs.Fills.{first-in}
-
-not-dec : {A : Type 0} → Dec A → Dec (A → ⊥)
-not-dec (yes a) = no (λ f. f a)
-not-dec (no f) = yes f
+use Rattle.running.proofs.Laws.{made-ready}
+use Rattle.running.proofs.Unlisted.{not-dec, ready-in, unlisted}
 
 module _ (k : ℕ) (len : Lengths) (W : Edges) (o : Ordered k len W) (P : List Move) where
-  -- a move with nothing missing before it is ready
-  made-ready : (y : Move) → On k len y → (In P y → ⊥) → ((z : Move) → Before k len W z y → (z ≡ y → ⊥) → In P z) → Ready k len W P y
-  made-ready y on out back = ((on, out, λ i l. back (y .0, i) (along k len W (y .0) i (y .1) (on .0) (omega arith) (on .1)) (λ e. omega (arith, ap (λ m. m .1) e))), back)
-
   abbrev Missing : Move → Move → Type 0
   Missing y z = Before k len W z y × ((z ≡ y → ⊥) × (In P z → ⊥))
 
@@ -38,15 +27,9 @@ module _ (k : ℕ) (len : Lengths) (W : Edges) (o : Ordered k len W) (P : List M
       go (yes i) f = no (λ h. h .0 .1 i)
       go (no q) (inl f) = no (λ h. f .2 .1 .1 (h .1 (f .0) (f .2 .0) (f .2 .1 .0)))
       go (no q) (inr f) =
-          yes (made-ready y on q (λ z b ne. elim (in-dec same-move P z) [ yes i ↦ i | no g ↦ absurd (f z (o .1 .each z (on-before k len W (o .0) (o .1) b on)) (b, (ne, g))) ]))
+          yes (made-ready k len W P y on q (λ z b ne. elim (in-dec same-move P z) [ yes i ↦ i | no g ↦ absurd (f z (o .1 .each z (on-before k len W (o .0) (o .1) b on)) (b, (ne, g))) ]))
 
-  module _ (B : Move → Type 0) (bdec : (x : Move) → Dec (B x)) (cl : (x y : Move) → On k len x → B x → Before k len W y x → B y) where
-    ready-in : (x : Move) → On k len x → B x → (In P x → ⊥) → (y : Move) × B y × Ready k len W P y
-    ready-in x on b out =
-        let r = first-in (λ z. (In P z → ⊥) × B z) (λ z. Dec·and (not-dec (in-dec same-move P z)) (bdec z)) (o .0) (o .1 .once) x (o .1 .each x on) (out, b) in
-        let ony : On k len (r .0) = o .1 .only (r .0) (r .1) in
-        (r .0, r .2 .1, made-ready (r .0) ony (r .2 .0) (λ z p ne. elim (in-dec same-move P z) [ yes i ↦ i | no f ↦ absurd (r .3 z (sound k len W (o .0) (o .1) z (r .0) p ne) (f, cl (r .0) z ony (r .2 .1) p)) ]))
-
+  module _ (B : Move → Type 0) (bdec : (x : Move) → Dec (B x)) where
     lowest-from : (s : ℕ) (y : Move) → y .0 ≤ s → B y → Ready k len W P y → (x : Move) × Lowest k len W B P x
     lowest-from zero y l b h = (y, (b, h, λ z g _ _. omega arith))
     lowest-from (suc s) y l b h =
@@ -57,16 +40,16 @@ module _ (k : ℕ) (len : Lengths) (W : Edges) (o : Ordered k len W) (P : List M
 
   some-chosen : (x : Move) → On k len x → (In P x → ⊥) → (y : Move) × Chosen k len W P y
   some-chosen x on out =
-      let r = ready-in (λ _. Unit {0}) (λ _. yes tt) (λ _ _ _ _ _. tt) x on tt out in
-      let s = lowest-from (λ _. Unit {0}) (λ _. yes tt) (λ _ _ _ _ _. tt) (r .0 .0) (r .0) (omega arith) tt (r .2) in
+      let r = ready-in k len W o P (λ _. Unit {0}) (λ _. yes tt) (λ _ _ _ _ _. tt) x on tt out in
+      let s = lowest-from (λ _. Unit {0}) (λ _. yes tt) (r .0 .0) (r .0) (omega arith) tt (r .2) in
       (s .0, (s .1 .1, λ y l h. s .1 .2 y l tt h))
 
   some-first : (B : Move → Type 0) → ((x : Move) → Dec (B x)) → ((x y : Move) → On k len x → B x → Before k len W y x → B y) → (x : Move) → On k len x → (In P x → ⊥) → (y : Move) × First-of k len W B P y
   some-first B bdec cl x on out =
       elim (find (λ z. (In P z → ⊥) × B z) (o .0) (λ z _. Dec·and (not-dec (in-dec same-move P z)) (bdec z))) [
         | inl f ↦
-            let r = ready-in B bdec cl (f .0) (o .1 .only (f .0) (f .1)) (f .2 .1) (f .2 .0) in
-            let s = lowest-from B bdec cl (r .0 .0) (r .0) (omega arith) (r .1) (r .2) in
+            let r = ready-in k len W o P B bdec cl (f .0) (o .1 .only (f .0) (f .1)) (f .2 .1) (f .2 .0) in
+            let s = lowest-from B bdec (r .0 .0) (r .0) (omega arith) (r .1) (r .2) in
             (s .0, inl (s .1))
         | inr f ↦
             let s = some-chosen x on out in
@@ -75,20 +58,11 @@ module _ (k : ℕ) (len : Lengths) (W : Edges) (o : Ordered k len W) (P : List M
 
 -- a choice that never ends early makes a list
 module _ (k : ℕ) (len : Lengths) (C : List Move → Move → Type 0) (more : (P : List Move) (x : Move) → On k len x → (In P x → ⊥) → (y : Move) × C P y) where
-  unlisted : (P : List Move) → length P < total k len → (x : Move) × On k len x × (In P x → ⊥)
-  unlisted P l =
-      elim (find (λ x. In P x → ⊥) (rows k len) (λ x _. not-dec (in-dec same-move P x))) [
-        | inl f ↦ (f .0, starts k len .only (f .0) (f .1), f .2)
-        | inr f ↦
-            let g : ⊥ = omega (arith, length-rows k len, no-longer (rows k len) P (starts k len .once) (λ x i. elim (in-dec same-move P x) [ yes h ↦ h | no h ↦ absurd (f x i h) ])) in
-            absurd g
-      ]
-
   grown : (c : ℕ) → c ≤ total k len → (L : List Move) × (length L ≡ c) × Each-by C L
   grown zero l = ([], refl, λ p h. let g : ⊥ = omega arith in absurd g)
   grown (suc c) l =
       let r = grown c (omega arith) in
-      let u = unlisted (r .0) (omega (arith, r .1)) in
+      let u = unlisted k len (r .0) (omega (arith, r .1)) in
       let y = more (r .0) (u .0) (u .1) (u .2) in
       (r .0 ++ y .0 ∷ [], omega (arith, r .1, length-append (r .0) (y .0 ∷ [])), each-more C (r .0) (y .0) (r .2) (y .1))
 

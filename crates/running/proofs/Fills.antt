@@ -1,78 +1,32 @@
--- The loop of `fill`.
+-- The moves that are written, one after the other.
 use mathlib.Core.Path.{_≡_, refl, sym, _∙_, ap, subst}
-use mathlib.Core.Logic.{_⊎_, inl, inr, _↔_, Dec·and}
-use mathlib.Core.List.{List, [], _∷_, _++_, map}
-use Prim.Native.Nat.{ℕ, zero, suc, _+_, _*_, _<_, _≤_, _/_, _%_}
+use mathlib.Core.Logic.{inl, inr}
+use mathlib.Core.List.{List, [], _∷_, _++_}
+use Prim.Native.Nat.{ℕ, _+_, _*_, _<_, _≤_, _/_, _%_}
 use native.Mathlib.Omega.{arith}
-use native.Mathlib.Decide.{decLt, ℕ-discrete}
-use lib.ListN.{length, take, getD, set, drop, replicate, length-set}
-use lib.Seq.{take-all}
-use Rattle.std.proofs.shelf.Lists.{map-more, getD-map, take-map, length-map, getD-replicate, take-more-set, length-take-le, map-push, drop-set-lt}
-use Rattle.std.specs.declared.option.Option.{Option}
+use native.Mathlib.Decide.{decLt}
+use lib.ListN.{length, take, getD, set, drop, length-set}
+use Rattle.std.proofs.shelf.Lists.{length-map, getD-replicate, take-more-set, length-take-le, map-push, drop-set-lt}
 use Rattle.std.specs.declared.option.Option.the-variants.{Some, None}
-use Rattle.order.specs.Lists.{In, Earlier}
-use Rattle.order.specs.Board.{Move, Lengths, Edges, On, Before, Running, Ordered, total, rows}
-use Rattle.order.proofs.Lists.{in-first, in-second, reaches-trans}
-use Rattle.order.proofs.Board.{along, sound}
+use Rattle.std.specs.declared.result.Result.the-variants.{Ok}
+use Rattle.order.specs.Lists.{In}
+use Rattle.order.specs.Board.{Move, Edges, On, total}
 use Rattle.order.proofs.Ways.{on-before}
-use Rattle.order.proofs.Rows.{starts}
-use Rattle.order.proofs.Sizes.{no-longer}
-use Rattle.order.proofs.Counting.{uniform, length-rows}
+use Rattle.order.proofs.Counting.{uniform}
 use Rattle.order.proofs.Deciding.{in-dec, same-move}
-use Rattle.running.specs.Orders.{Upcoming, Ready, Lowest, Chosen, First-of, Each-by, moves-of}
+use Rattle.running.specs.Orders.{Ready, Lowest, First-of, Each-by, moves-of}
 use Rattle.words.specs.Codes.{move-of}
 use Rattle.tables.specs.Meaning.{Meaning}
-use Rattle.running.specs.Calls.{last-look, Serves}
-use Rattle.running.specs.Progress.{Past, Follows, Within, Closed, Bounds, Offers, Picks, Nexts, all, Filled}
-use Rattle.std.specs.declared.result.Result.the-variants.{Ok}
-use Rattle.running.proofs.States.{State, state-none, each-more, ready-iff, state-more}
-
--- the first of the list that has the property
-
-module _ {X : Type 0} (Q : X → Type 0) (dec : (x : X) → Dec (Q x)) where
-  pub first-in : (l : List X) → ((w : X) → Earlier l w w → ⊥) → (x : X) → In l x → Q x → (y : X) × In l y × Q y × ((z : X) → Earlier l z y → Q z → ⊥)
-  first-in [] once x i q = absurd i
-  first-in (a ∷ l) once x i q = go (dec a) i (λ j. first-in l (λ w e. once w (inr e)) x j q)
-    where
-      nothing : (z : X) → Earlier (a ∷ l) z a → Q z → ⊥
-      nothing z (inl e) r = once a (inl (refl, e .1))
-      nothing z (inr e) r = once a (inl (refl, in-second l z a e))
-
-      later : (Q a → ⊥) → (y : X) → ((z : X) → Earlier l z y → Q z → ⊥) → (z : X) → Earlier (a ∷ l) z y → Q z → ⊥
-      later n y h z (inl e) r = n (subst Q (sym (e .0)) r)
-      later n y h z (inr e) r = h z e r
-
-      go : Dec (Q a) → In (a ∷ l) x → (In l x → (y : X) × In l y × Q y × ((z : X) → Earlier l z y → Q z → ⊥)) → (y : X) × In (a ∷ l) y × Q y × ((z : X) → Earlier (a ∷ l) z y → Q z → ⊥)
-      go (yes r) i rec = (a, inl refl, r, nothing)
-      go (no n) (inl e) rec = absurd (n (subst Q (sym e) q))
-      go (no n) (inr i) rec = let r = rec i in (r .0, inr (r .1), r .2, later n (r .0) (r .3))
-
--- where a move within the bounds is not listed, one of them is ready
-
-some-ready : (k : ℕ) (len : Lengths) (W : Edges) → Ordered k len W → (b : List ℕ) → Closed k len W b → (P : List Move) → (x : Move) → On k len x → Within b x → (In P x → ⊥) → (y : Move) × Ready k len W P y × Within b y
-some-ready k len W o b cl P x on w out = (y, ((ony, r .2 .0, λ i l. back (y .0, i) (along k len W (y .0) i (y .1) (ony .0) (omega arith) (ony .1)) (λ e. omega (arith, ap (λ m. m .1) e))), back), r .2 .1)
-  where
-    r : (y : Move) × In (o .0) y × ((In P y → ⊥) × Within b y) × ((z : Move) → Earlier (o .0) z y → ((In P z → ⊥) × Within b z) → ⊥)
-    r = first-in (λ z. (In P z → ⊥) × Within b z) (λ z. Dec·and (not-dec (in-dec same-move P z)) (decLt (z .1) (getD b (z .0) 0))) (o .0) (o .1 .once) x (o .1 .each x on) (out, w)
-      where
-        not-dec : {A : Type 0} → Dec A → Dec (A → ⊥)
-        not-dec (yes a) = no (λ f. f a)
-        not-dec (no f) = yes f
-
-    y : Move
-    y = r .0
-
-    ony : On k len y
-    ony = o .1 .only y (r .1)
-
-    back : (z : Move) → Before k len W z y → (z ≡ y → ⊥) → In P z
-    back z p ne = elim (in-dec same-move P z) [ yes i ↦ i | no f ↦ absurd (r .3 z (sound k len W (o .0) (o .1) z y p ne) (f, cl y z ony (r .2 .1) p)) ]
+use Rattle.running.specs.Calls.{Serves}
+use Rattle.running.specs.Progress.{Goes, Follows, Within, Closed, Offers, Picks, Nexts, all, Filled}
+use Rattle.running.proofs.Unlisted.{ready-in, unlisted}
+use Rattle.running.proofs.States.{State, each-more, ready-iff, state-more}
 
 module _ (m : Meaning) (W : Edges) (v : Serves m W) (few : m .shuttles ≤ 16) (short : m .moves ≤ 4096) (P : List Move) (d : List ℕ) (st : State m W P d) where
   offer : (b : List ℕ) (y : Move) → Within b y → Ready (m .shuttles) (λ _. m .moves) W P y → Offers m d b (y .0)
   offer b y w h =
       let f = ready-iff m W v P d st y .0 h in
-      (f .0, subst (λ j. Within b (y .0, j)) (f .2) w, subst (λ j. j < m .moves) (f .2) (f .1), subst (λ j. (q : ℕ) → q < m .shuttles → (q ≡ y .0 → ⊥) → Past (last-look m q (y .0) j) (getD d q 0)) (f .2) (f .3))
+      (f .0, subst (λ j. Within b (y .0, j)) (f .2) w, subst (λ j. j < m .moves) (f .2) (f .1), subst (Goes m d (y .0)) (f .2) (f .3))
 
   offered : (b : List ℕ) (t : ℕ) → Offers m d b t → Follows m d (t, getD d t 0)
   offered b t h = (h .0, h .2, refl, h .3)
@@ -90,25 +44,20 @@ module _ (m : Meaning) (W : Edges) (v : Serves m W) (few : m .shuttles ≤ 16) (
   listed b cl h y on w =
       elim (in-dec same-move P y) [
         | yes i ↦ i
-        | no f ↦ let r = some-ready (m .shuttles) (λ _. m .moves) W (v .1) b cl P y on w f in absurd (h (r .0 .0) (offer b (r .0) (r .2) (r .1)))
+        | no f ↦ let r = ready-in (m .shuttles) (λ _. m .moves) W (v .1) P (Within b) (λ z. decLt (z .1) (getD b (z .0) 0)) cl y on w f in absurd (h (r .0 .0) (offer b (r .0) (r .1) (r .2)))
       ]
 
-  pub first-of : (b : List ℕ) → Closed (m .shuttles) (λ _. m .moves) W b → (t : ℕ) → Nexts m d b (Some t) → First-of (m .shuttles) (λ _. m .moves) W (Within b) P (t, getD d t 0)
+  first-of : (b : List ℕ) → Closed (m .shuttles) (λ _. m .moves) W b → (t : ℕ) → Nexts m d b (Some t) → First-of (m .shuttles) (λ _. m .moves) W (Within b) P (t, getD d t 0)
   first-of b cl t (inl h) = inl (lowest b t h)
   first-of b cl t (inr h) = let l = lowest all t (h .1) in inr (listed b cl (h .0), (l .1, λ y g r. l .2 y g (in-all y (r .0 .0)) r))
 
-  pub never-none : length P < m .shuttles * m .moves → Picks m d all None → ⊥
+  never-none : length P < m .shuttles * m .moves → Picks m d all None → ⊥
   never-none l h =
-      omega (
-        arith,
-        length-rows (m .shuttles) (λ _. m .moves),
-        uniform (m .shuttles) (m .moves),
-        no-longer (rows (m .shuttles) (λ _. m .moves)) P (starts (m .shuttles) (λ _. m .moves) .once) (λ x i. let on = starts (m .shuttles) (λ _. m .moves) .only x i in listed all all-closed h x on (in-all x on)),
-      )
+      let x = unlisted (m .shuttles) (λ _. m .moves) P (omega (arith, uniform (m .shuttles) (m .moves))) in
+      x .2 (listed all all-closed h (x .0) (x .1) (in-all (x .0) (x .1)))
 
--- what the loop keeps, whatever the waits
-
-abbrev pub Kept : Meaning → List ℕ → List Move → List ℕ → Type 0
+-- what is kept of the moves P that are written and the counts d, whatever the waits
+abbrev Kept : Meaning → List ℕ → List Move → List ℕ → Type 0
 Kept m b P d =
     (W : Edges) → Serves m W → Closed (m .shuttles) (λ _. m .moves) W b → State m W P d × Each-by (First-of (m .shuttles) (λ _. m .moves) W (Within b)) P
 
@@ -116,14 +65,8 @@ next-follows : (m : Meaning) (d b : List ℕ) (t : ℕ) → Nexts m d b (Some t)
 next-follows m d b t (inl h) = (h .0 .0, h .0 .2, refl, h .0 .3)
 next-follows m d b t (inr h) = (h .1 .0 .0, h .1 .0 .2, refl, h .1 .0 .3)
 
-pub next-small : (m : Meaning) (d b : List ℕ) (t : ℕ) → Nexts m d b (Some t) → (t < m .shuttles) × (getD d t 0 < m .moves)
-next-small m d b t h = let f = next-follows m d b t h in (f .0, f .1)
-
-pub kept-none : (m : Meaning) (b out : List ℕ) → m .shuttles ≤ 16 → Kept m b (moves-of (take 0 out)) (replicate 16 0)
-kept-none m b out few W v cl = (state-none m W few, λ p l. let g : ⊥ = omega arith in absurd g)
-
 module _ (m : Meaning) (few : m .shuttles ≤ 16) (short : m .moves ≤ 4096) (b d out : List ℕ) (p : ℕ) (l : p < length out) (h : Kept m b (moves-of (take p out)) d) where
-  pub kept-more : length d ≡ 16 → (t : ℕ) → Nexts m d b (Some t) → Kept m b (moves-of (take (p + 1) (set out p (t * 4096 + getD d t 0)))) (set d t (getD d t 0 + 1))
+  kept-more : length d ≡ 16 → (t : ℕ) → Nexts m d b (Some t) → Kept m b (moves-of (take (p + 1) (set out p (t * 4096 + getD d t 0)))) (set d t (getD d t 0 + 1))
   kept-more len t nx W v cl =
       let s = h W v cl in
       subst (λ P. State m W P (set d t (getD d t 0 + 1)) × Each-by (First-of (m .shuttles) (λ _. m .moves) W (Within b)) P) (sym written) (
@@ -133,7 +76,7 @@ module _ (m : Meaning) (few : m .shuttles ≤ 16) (short : m .moves ≤ 4096) (b
     where
       code : move-of (t * 4096 + getD d t 0) ≡ (t, getD d t 0)
       code =
-          let f = next-small m d b t nx in
+          let f = next-follows m d b t nx in
           let a : (t * 4096 + getD d t 0) / 4096 ≡ t = omega (arith, f .1) in
           let e : (t * 4096 + getD d t 0) % 4096 ≡ getD d t 0 = omega (arith, f .1) in
           (λ i. (a i, e i))
@@ -141,25 +84,27 @@ module _ (m : Meaning) (few : m .shuttles ≤ 16) (short : m .moves ≤ 4096) (b
       written : moves-of (take (p + 1) (set out p (t * 4096 + getD d t 0))) ≡ moves-of (take p out) ++ (t, getD d t 0) ∷ []
       written = ap moves-of (take-more-set out p (t * 4096 + getD d t 0) l) ∙ map-push move-of (take p out) (t * 4096 + getD d t 0) ∙ ap (λ y. moves-of (take p out) ++ y ∷ []) code
 
-  pub kept-never : p < m .shuttles * m .moves → Nexts m d b None → (P : List Move) (e : List ℕ) → Kept m b P e
+  kept-never : p < m .shuttles * m .moves → Nexts m d b None → (P : List Move) (e : List ℕ) → Kept m b P e
   kept-never lt nx P e W v cl =
       absurd (never-none m W v few short (moves-of (take p out)) d (h W v cl .0) (omega (arith, length-map (take p out) move-of, length-take-le p out (omega arith))) nx)
 
--- a turn of the loop, and its end
-
+-- what a turn of the loop keeps
 abbrev pub Turn : Meaning → List ℕ → ℕ → List ℕ → List ℕ → List ℕ → ℕ → Type 0
 Turn m b total old out d p = (length d ≡ 16) × (length out ≡ length old) × (drop total out ≡ drop total old) × Kept m b (moves-of (take p out)) d
 
-module _ (m : Meaning) (few : m .shuttles ≤ 16) (short : m .moves ≤ 4096) (b old : List ℕ) (total : ℕ) (d out : List ℕ) (p : ℕ) (l : p < total) (le : total ≤ length old) (h : Turn m b total old out d p) where
-  pub turn-more : (t : ℕ) → Nexts m d b (Some t) → (d′ out′ : List ℕ) → d′ ≡ set d t (getD d t 0 + 1) → out′ ≡ set out p (t * 4096 + getD d t 0) → Turn m b total old out′ d′ (p + 1)
-  turn-more t nx d′ out′ e f =
-      subst (λ z. Turn m b total old z d′ (p + 1)) (sym f)
-      (subst (λ z. Turn m b total old (set out p (t * 4096 + getD d t 0)) z (p + 1)) (sym e)
-      (length-set d t _ ∙ h .0, length-set out p _ ∙ h .1, drop-set-lt total out p _ l ∙ h .2, kept-more m few short b d out p (omega (arith, h .1)) (h .3) (h .0) t nx))
+module _
+    (m : Meaning) (few : m .shuttles ≤ 16) (short : m .moves ≤ 4096) (b old : List ℕ) (total : ℕ) (d out : List ℕ) (p : ℕ) (l : p < total) (le : total ≤ length old)
+    (h : Turn m b total old out d p)
+  where
+    pub turn-more : (t : ℕ) → Nexts m d b (Some t) → (d′ out′ : List ℕ) → d′ ≡ set d t (getD d t 0 + 1) → out′ ≡ set out p (t * 4096 + getD d t 0) → Turn m b total old out′ d′ (p + 1)
+    turn-more t nx d′ out′ e f =
+        subst (λ z. Turn m b total old z d′ (p + 1)) (sym f)
+        (subst (λ z. Turn m b total old (set out p (t * 4096 + getD d t 0)) z (p + 1)) (sym e)
+        (length-set d t _ ∙ h .0, length-set out p _ ∙ h .1, drop-set-lt total out p _ l ∙ h .2, kept-more m few short b d out p (omega (arith, h .1)) (h .3) (h .0) t nx))
 
-  pub turn-never : total ≡ m .shuttles * m .moves → Nexts m d b None → (d′ out′ : List ℕ) → d′ ≡ d → out′ ≡ out → Turn m b total old out′ d′ (p + 1)
-  turn-never eq nx d′ out′ e f =
-      (ap length e ∙ h .0, ap length f ∙ h .1, ap (drop total) f ∙ h .2, kept-never m few short b d out p (omega (arith, h .1)) (h .3) (omega (arith, eq)) nx (moves-of (take (p + 1) out′)) d′)
+    pub turn-never : total ≡ m .shuttles * m .moves → Nexts m d b None → (d′ out′ : List ℕ) → d′ ≡ d → out′ ≡ out → Turn m b total old out′ d′ (p + 1)
+    turn-never eq nx d′ out′ e f =
+        (ap length e ∙ h .0, ap length f ∙ h .1, ap (drop total) f ∙ h .2, kept-never m few short b d out p (omega (arith, h .1)) (h .3) (omega (arith, eq)) nx (moves-of (take (p + 1) out′)) d′)
 
 pub filled-end : (m : Meaning) (b old : List ℕ) (total : ℕ) (d out : List ℕ) (p : ℕ) → p ≡ total → total ≤ length old → total ≡ m .shuttles * m .moves → Turn m b total old out d p
     → Filled m b old out (Ok total)

@@ -1,8 +1,8 @@
 -- Where things stand in a list, by position.
-use mathlib.Core.Path.{_≡_, refl, sym, _∙_, ap, subst}
-use mathlib.Core.Logic.{_⊎_, inl, inr}
-use mathlib.Core.List.{List, [], _∷_, _++_}
-use Prim.Native.Nat.{ℕ, zero, suc, _+_, _<_, _≤_}
+use mathlib.Core.Path.{_≡_, refl}
+use mathlib.Core.Logic.{inl, inr}
+use mathlib.Core.List.{List, [], _∷_}
+use Prim.Native.Nat.{ℕ, zero, suc, _<_}
 use native.Mathlib.Omega.{arith}
 use lib.ListN.{length, take, getD}
 use Rattle.order.specs.Lists.{In, Earlier}
@@ -37,14 +37,3 @@ module _ {X : Type 0} (d : X) where
   back-in (z ∷ l) once zero h x (inr e) = absurd (once z (inl (refl, in-second l x z e)))
   back-in (z ∷ l) once (suc p) h x (inl e) = inl (e .0)
   back-in (z ∷ l) once (suc p) h x (inr e) = inr (back-in l (λ w g. once w (inr g)) p (omega arith) x e)
-
-module _ {X : Type 0} where
-  pub in-take : (l : List X) (p : ℕ) (x : X) → In (take p l) x → In l x
-  in-take [] p x h = go p h
-    where
-      go : (p : ℕ) → In (take p []) x → ⊥
-      go zero h = h
-      go (suc p) h = h
-  in-take (z ∷ l) zero x h = absurd h
-  in-take (z ∷ l) (suc p) x (inl e) = inl e
-  in-take (z ∷ l) (suc p) x (inr h) = inr (in-take l p x h)

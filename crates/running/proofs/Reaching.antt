@@ -1,6 +1,6 @@
 -- The bounds of a move, by what the questions of it find.
 use mathlib.Core.Path.{_≡_, refl, sym, _∙_, ap, subst}
-use mathlib.Core.Logic.{_⊎_, inl, inr, _↔_}
+use mathlib.Core.Logic.{inl, inr, _↔_}
 use mathlib.Core.List.{List}
 use Prim.Native.Nat.{ℕ, _+_, _*_, _/_, _%_, _<_, _≤_}
 use native.Mathlib.Omega.{arith}
@@ -17,7 +17,7 @@ use Rattle.words.specs.Refusals.{passed, then, unless}
 use Rattle.words.specs.Codes.{move-of}
 use Rattle.words.proofs.Checks.{then-ok}
 use Rattle.order.specs.Lists.{there}
-use Rattle.order.specs.Board.{Move, Edges, On, Before}
+use Rattle.order.specs.Board.{Edges, On, Before}
 use Rattle.order.specs.Rounds.{Last-before, From}
 use Rattle.order.proofs.Before.{finds-back, tells-back}
 use Rattle.order.proofs.Ways.{no-back, on-before}

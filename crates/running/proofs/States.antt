@@ -1,33 +1,31 @@
 -- Some moves listed, and how many of each shuttle: what the table says of the next.
-use mathlib.Core.Path.{_≡_, refl, sym, _∙_, ap, subst}
-use mathlib.Core.Logic.{_⊎_, inl, inr, _↔_}
+use mathlib.Core.Path.{_≡_, refl, sym, ap, subst}
+use mathlib.Core.Logic.{inl, inr, _↔_}
 use mathlib.Core.List.{List, [], _∷_, _++_}
-use Prim.Native.Nat.{ℕ, zero, suc, _+_, _*_, _<_, _≤_}
+use Prim.Native.Nat.{ℕ, _+_, _<_, _≤_}
 use native.Mathlib.Omega.{arith}
 use native.Mathlib.Decide.{decLt, ℕ-discrete}
-use lib.ListN.{length, take, getD, set, replicate, length-append}
+use lib.ListN.{length, take, getD, set, length-append}
 use lib.Seq.{getD-set-same, getD-set-other, take-append-le, take-at, getD-at}
-use Rattle.std.proofs.shelf.Lists.{getD-append-left, getD-replicate}
+use Rattle.std.proofs.shelf.Lists.{getD-append-left}
 use Rattle.std.specs.declared.option.Option.{Option}
 use Rattle.std.specs.declared.option.Option.the-variants.{Some, None}
 use Rattle.order.specs.Lists.{In, Earlier, Reaches, there, onward}
-use Rattle.order.specs.Board.{Move, Lengths, Edges, On, Step, Before, Running, Ordered, total}
-use Rattle.order.specs.Rounds.{Greatest-of, Right-back}
-use Rattle.order.proofs.Lists.{in-second, in-left, in-right, in-either}
-use Rattle.order.proofs.Board.{along, sound, kept}
+use Rattle.order.specs.Board.{Move, Edges, Step, Before}
+use Rattle.order.specs.Rounds.{Greatest-of}
+use Rattle.order.proofs.Lists.{in-left, in-right, in-either}
+use Rattle.order.proofs.Board.{along}
 use Rattle.order.proofs.Ways.{fits, no-back}
-use Rattle.order.proofs.Deciding.{in-dec, same-move}
-use Rattle.running.specs.Orders.{Upcoming, Ready, Lowest, Chosen, First-of, Each-by}
+use Rattle.running.specs.Orders.{Upcoming, Ready, Each-by}
 use Rattle.tables.specs.Meaning.{Meaning}
 use Rattle.running.specs.Calls.{last-look, Serves}
 use Rattle.running.specs.Progress.{Past, Goes, Follows}
-use Rattle.running.proofs.Laws.{ready-on, ready-closed}
+use Rattle.running.proofs.Laws.{ready-closed}
 
 abbrev none : Move
 none = (0, 0)
 
--- one more
-
+-- a list with one more
 pub each-more : (C : List Move → Move → Type 0) (L : List Move) (x : Move) → Each-by C L → C L x → Each-by C (L ++ x ∷ [])
 each-more C L x h c p l =
     elim (decLt p (length L)) [
@@ -51,13 +49,6 @@ pub record State (m : Meaning) (W : Edges) (P : List Move) (d : List ℕ) : Type
   pub ready : Each-by (Ready (m .shuttles) (λ _. m .moves) W) P
   pub counts : (s i : ℕ) → s < m .shuttles → In P (s, i) → i < getD d s 0
   pub counted : (s i : ℕ) → s < m .shuttles → i < getD d s 0 → In P (s, i)
-
-pub state-none : (m : Meaning) (W : Edges) → m .shuttles ≤ 16 → State m W [] (replicate 16 0)
-state-none m W l = record {
-  ready = λ p h. let g : ⊥ = omega arith in absurd g;
-  counts = λ s i h g. absurd g;
-  counted = λ s i h g. omega (arith, getD-replicate {A = ℕ} 16 s 0 0 (omega arith));
-}
 
 module _ (m : Meaning) (W : Edges) (v : Serves m W) (P : List Move) (d : List ℕ) (st : State m W P d) where
   ready-follows : (x : Move) → Ready (m .shuttles) (λ _. m .moves) W P x → Follows m d x

@@ -37,7 +37,7 @@ pub record Listed-so (m : Meaning) (old new : List ℕ) (r : Result ℕ Refusal)
       (λ L. (W : Edges) → Serves m W → Lists (m .shuttles) (λ _. m .moves) W L × Running (m .shuttles) (λ _. m .moves) W L
       × ((M : List Move) → Lists (m .shuttles) (λ _. m .moves) W M → M ≡ L)) old new r
 
--- where the code v is checked: refused so, or written as `push` of v
+-- where v is no move, the call is refused so and the slice left as it was; else the list is written that takes the moves before v first, v among them
 abbrev pub Pushed-by : Result Unit Refusal → Meaning → ℕ → List ℕ → List ℕ → Result ℕ Refusal → Type 0
 Pushed-by (Ok u) m v old new r =
     Fills (m .shuttles * m .moves)
@@ -45,7 +45,7 @@ Pushed-by (Ok u) m v old new r =
     × ((M : List Move) → Pushes (m .shuttles) (λ _. m .moves) W (move-of v) M → M ≡ L)) old new r
 Pushed-by (Err e) m v old new r = (r ≡ Err e) × (new ≡ old)
 
--- whatever waits the table answers for: the list that does so with the moves before v first is written, v among them
+-- the same, whatever waits the table answers for: it is a running order, and the only such list
 pub record Pushed-so (m : Meaning) (v : ℕ) (old new : List ℕ) (r : Result ℕ Refusal) : Type 0 where
   pub writes : Pushed-by (move-check (m .shuttles) (m .moves) v) m v old new r
 

@@ -66,8 +66,8 @@ Push-runs = (k : ℕ) (len : Lengths) (W : Edges) → Ordered k len W → (v : M
 -- `push` of v has what is before v earlier than all else
 abbrev pub Push-first : Type 0
 Push-first =
-    (k : ℕ) (len : Lengths) (W : Edges) → Ordered k len W → (v : Move) → On k len v → (L : List Move) → Pushes k len W v L → (x y : Move) → Before k len W x v → On k len y → (Before k len W y v → ⊥)
-    → Earlier L x y
+    (k : ℕ) (len : Lengths) (W : Edges) → Ordered k len W → (v : Move) → On k len v → (L : List Move) → Pushes k len W v L → (x y : Move)
+    → Before k len W x v → On k len y → (Before k len W y v → ⊥) → Earlier L x y
 
 -- there is such a list
 abbrev pub Some-list : Type 0

@@ -6,6 +6,8 @@ use Prim.Native.Nat.{ℕ, _+_, _*_, _%_, _<_}
 use lib.ListN.{getD, replicate}
 use Rattle.std.specs.declared.option.Option.{Option}
 use Rattle.std.specs.declared.option.Option.the-variants.{Some, None}
+use Rattle.std.specs.declared.result.Result.{Result}
+use Rattle.std.specs.declared.result.Result.the-variants.{Ok, Err}
 use Rattle.order.specs.Board.{Move, Lengths, Edges, On, Before}
 use Rattle.words.specs.declared.Refusal.{Refusal}
 use Rattle.words.specs.Refusals.{passed}
@@ -14,8 +16,6 @@ use Rattle.tables.specs.Meaning.{Meaning}
 use Rattle.questions.specs.Checks.{move-check}
 use Rattle.running.specs.Orders.{First-of, Each-by}
 use Rattle.running.specs.Calls.{last-look, Serves, Fills}
-use Rattle.std.specs.declared.result.Result.{Result}
-use Rattle.std.specs.declared.result.Result.the-variants.{Ok, Err}
 
 -- none, or a place below m
 abbrev pub Past : Option ℕ → ℕ → Type 0
@@ -26,6 +26,7 @@ Past (Some p) m = p < m
 abbrev pub Goes : Meaning → List ℕ → ℕ → ℕ → Type 0
 Goes m d t j = (r : ℕ) → r < m .shuttles → (r ≡ t → ⊥) → Past (last-look m r t j) (getD d r 0)
 
+-- the move x may come next
 abbrev pub Follows : Meaning → List ℕ → Move → Type 0
 Follows m d x = (x .0 < m .shuttles) × (x .1 < m .moves) × (x .1 ≡ getD d (x .0) 0) × Goes m d (x .0) (x .1)
 
@@ -50,6 +51,7 @@ abbrev pub Picks : Meaning → List ℕ → List ℕ → Option ℕ → Type 0
 Picks m d b None = (t : ℕ) → Offers m d b t → ⊥
 Picks m d b (Some t) = Offers m d b t × ((q : ℕ) → q < t → Offers m d b q → ⊥)
 
+-- bounds that every move is within
 abbrev pub all : List ℕ
 all = replicate 16 4096
 
@@ -75,6 +77,6 @@ pub record Counts (m : Meaning) (v t c : ℕ) : Type 0 where
   pub tells : passed ≡ move-check (m .shuttles) (m .moves) v → t < m .shuttles → (W : Edges) → Serves m W → (j : ℕ)
       → Before (m .shuttles) (λ _. m .moves) W (t, j) (move-of v) ↔ (j < c)
 
--- the bounds of a move
+-- b has the bounds of the move with the code v
 pub record Reach (m : Meaning) (v : ℕ) (b : List ℕ) : Type 0 where
   pub bounds : passed ≡ move-check (m .shuttles) (m .moves) v → (W : Edges) → Serves m W → Bounds (m .shuttles) (λ _. m .moves) W (move-of v) b

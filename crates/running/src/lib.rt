@@ -6,9 +6,9 @@ use crate::testing::is_running;
 use tables::table::Table;
 use words::Refusal;
 
-pub mod filling;
-pub mod ready;
-pub mod testing;
+mod filling;
+mod ready;
+mod testing;
 
 // Writes the running order that takes the lowest shuttle whose next move is ready, each time.
 pub fn list<T: Table>(table: &T, out: &mut [u16]) -> Result<usize, Refusal>

@@ -1,10 +1,5 @@
-use mathlib.Core.Path.{_≡_}
-use lib.ListN.{length, take, drop}
-use Rattle.running.specs.Orders.{moves-of}
-use Rattle.running.proofs.Fills.{Kept}
+use Rattle.running.proofs.Fills.{Turn}
 use Rattle.running.proofs.filling.fill.Given as given
 
 abbrev pub Inv-loop-p : given.InvT-loop-p
-Inv-loop-p g l =
-    (length (l .done) ≡ 16) × (length (l .out) ≡ length (l .entry .out)) × (drop (l .total) (l .out) ≡ drop (l .total) (l .entry .out))
-    × Kept (g .T·Table .meaning (l .table)) (l .bounds) (moves-of (take (l .p) (l .out))) (l .done)
+Inv-loop-p g l = Turn (g .T·Table .meaning (l .table)) (l .bounds) (l .total) (l .entry .out) (l .out) (l .done) (l .p)
