@@ -1,6 +1,10 @@
-// Cases of the station's call: the worked example, damaged files, short buffers, the longest file, and a full store.
+// Cases of the station's call, and of a run on a small aisle.
 #[cfg(test)]
-mod tests {
+mod aisle;
+
+// The station's call: the worked example, damaged files, short buffers, the longest file, and a full store.
+#[cfg(test)]
+mod station_call {
     use station::station::soguapy_report;
     use std::test::*;
 
