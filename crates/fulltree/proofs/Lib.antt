@@ -1,0 +1,3 @@
+pub mod Powers
+pub mod Mending
+pub mod Walks

@@ -1,0 +1,108 @@
+-- A full tree's meaning is lawful.
+use Prim.Native.Nat.{ℕ, zero, suc, _+_, _*_, _/_, _%_, _<_, _≤_}
+use native.Mathlib.Nat.{suc-mul}
+use native.Mathlib.Omega.{arith}
+use mathlib.Core.Path.{_≡_, refl, sym}
+use mathlib.Core.List.{List}
+use mathlib.Core.Bool.{Bool, true, false, cond, _&&_}
+use mathlib.Core.Logic.{⊎-elim}
+use lib.ListN.{getD}
+use lib.Dec.{ltb, eqb}
+use Rattle.std.specs.declared.option.Option.{Option}
+use Rattle.std.specs.declared.option.Option.the-variants.{Some, None}
+use Rattle.std.proofs.shelf.Bits.{mul-le, mul-add-lt}
+use Rattle.std.proofs.shelf.Tests.{cases-lt, and-parts, or-cases, ltb-true, le-ltb, eqb-true}
+use Rattle.words.specs.Refusals.{passed}
+use Rattle.tables.specs.Meaning.{Lawful, Small}
+use Rattle.tables.specs.Answers.{allowed}
+use Rattle.tables.specs.Checked.{Inside, inside-from}
+use Rattle.tables.specs.Filled.{filled-le}
+use Rattle.tables.specs.Plain.{decoded}
+use Rattle.tables.specs.PlainLaws.{held}
+use Rattle.fulltree.specs.Leaves.{leaves-of, leaves-enough}
+use Rattle.fulltree.specs.Tree.{leaf, right-at, all-below, tree-sound}
+use Rattle.fulltree.specs.Full.{stretch, pair-of, places, full-cell, tree-meaning}
+
+-- a filled cell is allowed, and a leaf stands for what it holds
+full-held : (k n p : ℕ) (cs : List ℕ) (s t i j : ℕ) → full-cell k n p cs s t i ≡ Some j → (allowed k n s t i ≡ passed) × (leaf p (stretch (2 * p) cs (pair-of k s t)) i ≡ Some j)
+unfolding full-cell
+full-held k n p cs s t i j e = held (allowed k n s t i) (leaf p (stretch (2 * p) cs (pair-of k s t)) i) j e
+
+pub full-same : (k n p : ℕ) (cs : List ℕ) (s i : ℕ) → full-cell k n p cs s s i ≡ None
+full-same k n p cs s i = go (full-cell k n p cs s s i) refl
+  where
+    go : (o : Option ℕ) → full-cell k n p cs s s i ≡ o → o ≡ None
+    go None e = refl
+    go (Some j) e = absurd (inside-from k n s s i (full-held k n p cs s s i j e .0) .apart refl)
+
+each-below : (f : ℕ → Bool) (n q : ℕ) → all-below f n ≡ true → q < n → f q ≡ true
+each-below f zero q e l = absurd (omega arith)
+each-below f (suc n) q e l =
+    let h = and-parts (f n) (all-below f n) e in
+    ⊎-elim
+    (λ (b : q < n). each-below f n q (h .1) b)
+    (λ (b : n ≤ q). let same : q ≡ n = omega arith in rw same (h .0))
+    (cases-lt q n)
+
+-- a number of a sound tree that stands for a place stands for one below m
+decoded-below : (v m j : ℕ) (b : Bool) → eqb v 65535 ≡ true → cond b None (Some v) ≡ Some j → b ≡ eqb v 65535 → j < m
+decoded-below v m j true e o is = let z : _≡_ {A = ℕ} 0 1 = cc in absurd (omega arith)
+decoded-below v m j false e o is = let z : false ≡ true = cc in let y : _≡_ {A = ℕ} 0 1 = cc in absurd (omega arith)
+
+pub value-lt : (v m j : ℕ) → decoded v ≡ Some j → v < m → j < m
+value-lt v m j o l = go (eqb v 65535) o
+  where
+    go : (b : Bool) → cond b None (Some v) ≡ Some j → j < m
+    go true e = let z : _≡_ {A = ℕ} 0 1 = cc in absurd (omega arith)
+    go false e = let s : v ≡ j = cc in omega arith
+
+leaf-below : (m p : ℕ) (row : List ℕ) (i j : ℕ) → i < p → tree-sound m p row ≡ true → leaf p row i ≡ Some j → j < m
+unfolding tree-sound
+leaf-below m p row i j l sound o =
+    let v = getD row (p + i) 0 in
+    let at : right-at m p row (p + i) ≡ true = each-below (right-at m p row) (2 * p) (p + i) sound (omega arith) in
+    let at′ = rw (le-ltb (p + i) p (omega arith)) at at in
+    ⊎-elim
+    (λ (e : eqb v 65535 ≡ true). decoded-below v m j (eqb v 65535) e o refl)
+    (λ (e : (ltb (p + i) (p + m) && ltb v m) ≡ true). value-lt v m j o (ltb-true v m (and-parts (ltb (p + i) (p + m)) (ltb v m) e .1)))
+    (or-cases (eqb v 65535) (ltb (p + i) (p + m) && ltb v m) at′)
+
+places-le : (k n q : ℕ) → places k n q ≤ n
+places-le k n q = go (eqb (q / k) (q % k))
+  where
+    go : (b : Bool) → cond b 0 n ≤ n
+    go true = omega arith
+    go false = omega arith
+
+-- the stretch q is one of r
+pub stretch-fits : (r w q : ℕ) → q < r → q * w + w ≤ r * w
+stretch-fits r w q l = omega (arith, mul-le (suc q) w r w l (omega arith), suc-mul q w)
+
+module _ (k n p u : ℕ) (cs : List ℕ) (small : Small k n) (wide : p ≡ leaves-of n) (whole : 1 < k → u ≡ k * k * (2 * p))
+    (sound : (q : ℕ) → q * (2 * p) < u → tree-sound (places k n q) p (stretch (2 * p) cs q) ≡ true) where
+  -- with two different shuttles in the table, there are two, and all stretches of the pairs are in use
+  pub pair-used : (s t : ℕ) → s < k → t < k → (s ≡ t → ⊥) → pair-of k s t * (2 * p) + 2 * p ≤ u
+  pair-used s t a b c =
+      let two : 1 < k = two-of s t a b c in
+      omega (arith, whole two, stretch-fits (k * k) (2 * p) (pair-of k s t) (mul-add-lt s k t k a b))
+    where
+      two-of : (s t : ℕ) → s < k → t < k → (s ≡ t → ⊥) → 1 < k
+      two-of s t a b c = omega arith
+
+  pub pair-sound : (s t : ℕ) → s < k → t < k → (s ≡ t → ⊥) → tree-sound (places k n (pair-of k s t)) p (stretch (2 * p) cs (pair-of k s t)) ≡ true
+  pair-sound s t a b c = sound (pair-of k s t) (omega (arith, pair-used s t a b c, wide, leaves-enough n, small .2))
+
+  pub full-lawful : Lawful (tree-meaning k n p cs)
+  full-lawful = record {
+    shuttles-some = small .0;
+    shuttles-few = small .1;
+    moves-some = small .2;
+    moves-few = small .3;
+    value-below = λ s t i j e.
+        let h = full-held k n p cs s t i j e in
+        let g = inside-from k n s t i (h .0) in
+        let sound′ = pair-sound s t (g .from-below) (g .to-below) (g .apart) in
+        omega (arith, places-le k n (pair-of k s t), leaf-below (places k n (pair-of k s t)) p (stretch (2 * p) cs (pair-of k s t)) i j (omega (arith, g .place-below, wide, leaves-enough n)) sound′ (h .1));
+    cell-inside = λ s t i j e. let h = inside-from k n s t i (full-held k n p cs s t i j e .0) in (h .from-below, h .to-below, h .apart, h .place-below);
+    filled-le = filled-le k n (full-cell k n p cs) (full-same k n p cs) (small .0);
+  }
