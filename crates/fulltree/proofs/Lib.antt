@@ -1,3 +1,5 @@
 pub mod Powers
 pub mod Mending
 pub mod Walks
+pub mod Stretches
+pub mod Fulls

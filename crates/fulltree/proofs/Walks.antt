@@ -20,7 +20,7 @@ use Rattle.fulltree.specs.Leaves.{pow-twice}
 use Rattle.fulltree.specs.Tree.{node, leaf, lower, Tree, with-right, way-down}
 use Rattle.fulltree.proofs.Powers.{pow-le, pow-more}
 
-smaller-none : (a : Option ℕ) → smaller a None ≡ a
+pub smaller-none : (a : Option ℕ) → smaller a None ≡ a
 smaller-none None = refl
 smaller-none (Some x) = refl
 
@@ -132,16 +132,17 @@ module _ (p : ℕ) (row : List ℕ) (tree : Tree p row) where
   twin : (q : ℕ) → 0 < q → q < p → node row q ≡ smaller (node row (2 * q)) (node row (2 * q + 1))
   twin q s l = ap decoded (tree .inner q s l) ∙ decoded-min (getD row (2 * q) 0) (getD row (2 * q + 1) 0) (tree .small (2 * q) (omega arith) (omega arith)) (tree .small (2 * q + 1) (omega arith) (omega arith))
 
-  pub up-starts : (i : ℕ) → i < p → Up p row i (node row (p + i)) (p + i)
-  up-starts i l =
+  pub up-starts : (i : ℕ) (best : Option ℕ) (q : ℕ) → i < p → q ≡ p + i → best ≡ node row q → Up p row i best q
+  up-starts i best q l at leaf-is =
       let is = tree .power .1 in
       let e : 2 * 2 ^ tree .power .0 ≡ p + p = omega arith in
+      let all = sym (least-first (node row) (p + i) (p + p) (omega arith)) ∙ sym (least-shift (node row) p i p) in
       record {
         h = tree .power .0;
         from = omega arith;
         to = omega arith;
         within = omega arith;
-        rest = ap (λ x. smaller (node row (p + i)) (least-of (node row) (p + i + 1) x)) e ∙ sym (least-first (node row) (p + i) (p + p) (omega arith)) ∙ sym (least-shift (node row) p i p);
+        rest = rw (leaf-is, e, at) all;
       }
 
   pub up-turns : (i : ℕ) (best : Option ℕ) (q : ℕ) → 1 < q → Up p row i best q → Up p row i (with-right (node row) best q) (q / 2)

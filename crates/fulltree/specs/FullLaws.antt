@@ -78,19 +78,19 @@ places-le k n q = go (eqb (q / k) (q % k))
 pub stretch-fits : (r w q : ℕ) → q < r → q * w + w ≤ r * w
 stretch-fits r w q l = omega (arith, mul-le (suc q) w r w l (omega arith), suc-mul q w)
 
-module _ (k n p u : ℕ) (cs : List ℕ) (small : Small k n) (wide : p ≡ leaves-of n) (whole : 1 < k → u ≡ k * k * (2 * p))
-    (sound : (q : ℕ) → q * (2 * p) < u → tree-sound (places k n q) p (stretch (2 * p) cs q) ≡ true) where
+module _ (k n p u : ℕ) (cs : List ℕ) (small : Small k n) (wide : p ≡ leaves-of n) (some : 1 < k → 0 < u) (whole : 0 < u → u ≡ k * k * (2 * p))
+    (trees : (q : ℕ) → q * (2 * p) < u → tree-sound (places k n q) p (stretch (2 * p) cs q) ≡ true) where
   -- with two different shuttles in the table, there are two, and all stretches of the pairs are in use
   pub pair-used : (s t : ℕ) → s < k → t < k → (s ≡ t → ⊥) → pair-of k s t * (2 * p) + 2 * p ≤ u
   pair-used s t a b c =
       let two : 1 < k = two-of s t a b c in
-      omega (arith, whole two, stretch-fits (k * k) (2 * p) (pair-of k s t) (mul-add-lt s k t k a b))
+      omega (arith, whole (some two), stretch-fits (k * k) (2 * p) (pair-of k s t) (mul-add-lt s k t k a b))
     where
       two-of : (s t : ℕ) → s < k → t < k → (s ≡ t → ⊥) → 1 < k
       two-of s t a b c = omega arith
 
   pub pair-sound : (s t : ℕ) → s < k → t < k → (s ≡ t → ⊥) → tree-sound (places k n (pair-of k s t)) p (stretch (2 * p) cs (pair-of k s t)) ≡ true
-  pair-sound s t a b c = sound (pair-of k s t) (omega (arith, pair-used s t a b c, wide, leaves-enough n, small .2))
+  pair-sound s t a b c = trees (pair-of k s t) (omega (arith, pair-used s t a b c, wide, leaves-enough n, small .2))
 
   pub full-lawful : Lawful (tree-meaning k n p cs)
   full-lawful = record {

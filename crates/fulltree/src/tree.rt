@@ -60,7 +60,20 @@ fn way_down(row: &[u16], j: u16, q: usize) -> usize
     requires { ⌜ 2 * q + 1 < length (now row) ⌝ }
     ensures { λ r. ⌜ r ≡ way-down (now (row .entry)) j q ⌝ }
 {
-    if row[2 * q + 1] <= j { 2 * q + 1 } else { 2 * q }
+    if row[2 * q + 1] <= j {
+        2 * q + 1
+    } else {
+        2 * q
+    }
+}
+
+// What the place i holds.
+pub fn held(row: &[u16], leaves: usize, i: u16) -> Option<u16>
+    requires tree { ⌜ Tree leaves (now row) ⌝ }
+    requires inside { ⌜ i < leaves ⌝ }
+    ensures { λ r. ⌜ r ≡ leaf leaves (now (row .entry)) i ⌝ }
+{
+    decode(row[leaf_at(leaves, i)])
 }
 
 // Writes the number at the leaf of the place i, and mends each number above it.
@@ -72,7 +85,7 @@ pub fn store(row: &mut [u16], leaves: usize, i: u16, number: u16)
 {
     let mut q = leaf_at(leaves, i);
     row[q] = number;
-    'up: while q > 1 {
+    'mend: while q > 1 {
         q /= 2;
         row[q] = lower(row, q);
     }

@@ -5,14 +5,14 @@ use Rattle.fulltree.specs.Tree.{lower, mended, stored}
 use Rattle.fulltree.proofs.Mending.{mended-step, mended-top}
 use Rattle.fulltree.proofs.tree.store.Needs as need
 
-pub up-again : need.up-again
-up-again c =
-    let step = mended-step (c .up .q) (c .up .row) (c .up-test .taken) in
+pub mend-again : need.mend-again
+mend-again c =
+    let step = mended-step (c .mend .q) (c .mend .row) (c .mend-test .taken) in
     (omega arith, simp length-set (omega arith), cc)
 
 pub returns : need.returns
 unfolding stored
 returns c =
-    let top = mended-top (c .up .q) (c .up .q) (c .up .row) (c .up-test .left) in
+    let top = mended-top (c .mend .q) (c .mend .q) (c .mend .row) (c .mend-test .left) in
     let at = c .leaf-at-q .ensures in
     cc
