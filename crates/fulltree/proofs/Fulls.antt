@@ -3,14 +3,14 @@ use Prim.Native.Nat.{ℕ, zero, suc, _+_, _-_, _*_, _/_, _%_, _<_, _≤_}
 use native.Mathlib.Omega.{arith}
 use mathlib.Core.Path.{_≡_, refl, sym, ap, _∙_, fun-ext}
 use mathlib.Core.List.{List}
-use mathlib.Core.Logic.{_≢_, _⊎_, inl, inr, ⊎-elim}
+use mathlib.Core.Logic.{_⊎_, inl, inr, ⊎-elim}
 use mathlib.Core.Bool.{true, false, cond}
 use lib.Dec.{eqb}
 use lib.ListN.{getD, length, replicate, drop}
 use Rattle.std.proofs.shelf.Bits.{div-mul-add, mod-mul-add, mul-le, mul-add-lt}
 use Rattle.std.proofs.shelf.Lists.{getD-replicate, getD-append-left, length-replicate, length-append}
 use Rattle.std.proofs.shelf.Ways.{tells}
-use Rattle.std.proofs.shelf.Tests.{leb-true, ne-eqb, cases-eq, cases-lt, le-leb}
+use Rattle.std.proofs.shelf.Tests.{leb-true, ne-eqb, cases-eq, cases-lt}
 use Rattle.std.specs.declared.option.Option.{Option}
 use Rattle.std.specs.declared.option.Option.the-variants.{Some, None}
 use Rattle.std.specs.declared.result.Result.{Result}
@@ -19,7 +19,7 @@ use Rattle.std.specs.Results.{isOk}
 use Rattle.words.specs.declared.Refusal.{Refusal}
 use Rattle.words.specs.Refusals.{passed, if-done}
 use Rattle.words.proofs.Checks.{then-first, then-second, unless-passed}
-use Rattle.tables.specs.Meaning.{one, filled-of, with-cell, full-meaning, Small, least-of, last-of, smaller, at-most}
+use Rattle.tables.specs.Meaning.{one, filled-of, with-cell, full-meaning, Small, least-of, last-of, smaller}
 use Rattle.tables.specs.Answers.{allowed, valued, sizable, put-answer, put-after, clear-after, cell-answer, least-answer, last-answer}
 use Rattle.tables.specs.Checked.{Inside, inside-from}
 use Rattle.tables.specs.Filled.{filled-le}
@@ -30,10 +30,10 @@ use Rattle.tables.proofs.Extremes.{least-more, last-more}
 use Rattle.tables.proofs.Plains.{Fit, decoded-encoded}
 use Rattle.fulltree.specs.Leaves.{leaves-of, leaves-power, leaves-enough, leaves-smallest}
 use Rattle.fulltree.specs.Tree.{leaf, tree-sound, Tree, stored}
-use Rattle.fulltree.specs.Full.{stretch, with-stretch, pair-of, full-stored, places, full-cell, tree-meaning, Pair, numbers-of, full-check}
+use Rattle.fulltree.specs.Full.{stretch, pair-of, full-stored, places, full-cell, tree-meaning, Pair, numbers-of, full-check}
 use Rattle.fulltree.specs.declared.full.FullTree.{FullTree}
 use Rattle.fulltree.specs.FullLaws.{full-same, stretch-fits, pair-used, pair-sound}
-use Rattle.fulltree.proofs.Mending.{length-stored, stored-same, stored-other, stored-sound, blank-sound, tree-from, sound-tells}
+use Rattle.fulltree.proofs.Mending.{length-stored, stored-same, stored-other, stored-sound, blank-sound, own-empty, tree-from, sound-tells}
 use Rattle.fulltree.proofs.Stretches.{length-stretch, stretch-number, stretch-same, stretch-other, length-with-stretch}
 use Rattle.fulltree.proofs.Walks.{smaller-none}
 
@@ -49,13 +49,13 @@ places-all : (k n s t : ℕ) → t < k → (s ≡ t → ⊥) → places k n (pai
 places-all k n s t lt apart = rw (div-mul-add s k t lt, mod-mul-add s k t lt, ne-eqb s t apart)
 
 -- and that of a shuttle and itself has none
-pub places-own : (k n s : ℕ) → s < k → places k n (pair-of k s s) ≡ 0
+places-own : (k n s : ℕ) → s < k → places k n (pair-of k s s) ≡ 0
 places-own k n s l = rw (div-mul-add s k s l, mod-mul-add s k s l) (own s)
   where
     own : (s : ℕ) → cond (eqb s s) 0 n ≡ 0
     own s = grind (arith, tells)
 
-pub full-cell-at : (k n p : ℕ) (cs : List ℕ) (s t i : ℕ) → allowed k n s t i ≡ passed → full-cell k n p cs s t i ≡ leaf p (stretch (2 * p) cs (pair-of k s t)) i
+full-cell-at : (k n p : ℕ) (cs : List ℕ) (s t i : ℕ) → allowed k n s t i ≡ passed → full-cell k n p cs s t i ≡ leaf p (stretch (2 * p) cs (pair-of k s t)) i
 unfolding full-cell
 full-cell-at k n p cs s t i e = rw e
 
@@ -120,6 +120,14 @@ module _ {k n p u m : ℕ} {cs : List ℕ} (sound : Sound k n p u m cs) where
 
   enough : n ≤ p
   enough = omega (arith, sound .wide, leaves-enough n)
+
+  -- 65,535 stands between a shuttle and itself
+  pub own-stretch : (s c : ℕ) → 1 < k → s < k → c < 2 * p → getD cs (pair-of k s s * (2 * p) + c) 0 ≡ 65535
+  own-stretch s c two l b =
+      let q = pair-of k s s in
+      let used = sound .whole (sound .some two) in
+      let tree : tree-sound 0 p (stretch (2 * p) cs q) ≡ true = ap (λ x. tree-sound x p (stretch (2 * p) cs q)) (sym (places-own k n s l)) ∙ sound .trees q (omega (arith, stretch-fits (k * k) (2 * p) q (mul-add-lt s k s k l l))) in
+      sym (stretch-number (2 * p) cs q c b) ∙ own-empty p (stretch (2 * p) cs q) tree c b
 
   -- the stretch of two different shuttles
   module _ (s t : ℕ) (from : s < k) (to : t < k) (apart : s ≡ t → ⊥) where

@@ -1,16 +1,16 @@
 -- A write to one leaf, and the way up that mends the numbers above it.
-use Prim.Native.Nat.{ℕ, zero, suc, _+_, _-_, _*_, _/_, _<_, _≤_, min}
+use Prim.Native.Nat.{ℕ, zero, suc, _+_, _*_, _/_, _<_, _≤_, min}
 use native.Mathlib.Omega.{arith}
 use mathlib.Core.Path.{_≡_, refl, sym, ap, _∙_}
-use mathlib.Core.Bool.{Bool, true, false, cond, _&&_, _||_}
+use mathlib.Core.Bool.{true, cond, _&&_, _||_}
 use mathlib.Core.List.{List}
 use mathlib.Core.Logic.{_≢_, _⊎_, inl, inr, ⊎-elim}
-use lib.ListN.{length, getD, set, replicate}
-use lib.Dec.{eqb, ltb, leb}
+use lib.ListN.{length, getD, set}
+use lib.Dec.{eqb, ltb}
 use Rattle.std.specs.Orderings.{Decides}
-use Rattle.std.proofs.shelf.Lists.{getD-replicate, getD-set-same, getD-set-other, length-set}
+use Rattle.std.proofs.shelf.Lists.{getD-set-same, getD-set-other, length-set}
 use Rattle.std.proofs.shelf.Ways.{tells, decides-below-and}
-use Rattle.std.proofs.shelf.Tests.{cases-eq, cases-lt, cases-bool, le-leb, lt-leb, leb-true, leb-false}
+use Rattle.std.proofs.shelf.Tests.{cases-eq, cases-lt, le-leb, lt-leb}
 use Rattle.fulltree.specs.Leaves.{Power}
 use Rattle.fulltree.specs.Tree.{lower, right-at, all-below, tree-sound, Tree, mended, stored}
 

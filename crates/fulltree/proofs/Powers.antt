@@ -1,7 +1,7 @@
 -- Powers of two, and the levels of a tree: the numbers from 2 ^ h to 2 * 2 ^ h - 1 are one.
-use Prim.Native.Nat.{ℕ, zero, suc, _+_, _*_, _/_, _^_, _<_, _≤_, max}
+use Prim.Native.Nat.{ℕ, zero, suc, _*_, _/_, _^_, _<_, _≤_, max}
 use native.Mathlib.Omega.{arith}
-use mathlib.Core.Path.{_≡_, refl, sym, ap, _∙_}
+use mathlib.Core.Path.{_≡_, ap}
 use mathlib.Core.Logic.{⊎-elim}
 use Rattle.std.proofs.shelf.Bits.{pow-pos, pow-below}
 use Rattle.std.proofs.shelf.Tests.{cases-lt, cases-order}

@@ -1,16 +1,15 @@
 -- What a write to one stretch leaves of the buffer.
-use Prim.Native.Nat.{ℕ, suc, _+_, _-_, _*_, _<_, _≤_}
+use Prim.Native.Nat.{ℕ, _+_, _-_, _*_, _<_, _≤_}
 use native.Mathlib.Omega.{arith}
 use mathlib.Core.Path.{_≡_, refl, sym, ap, _∙_}
 use mathlib.Core.List.{List, _++_}
-use mathlib.Core.Logic.{_≢_, _⊎_, inl, inr, ⊎-elim}
+use mathlib.Core.Logic.{_≢_, _⊎_, ⊎-elim}
 use lib.ListN.{length, getD, take, drop}
 use borrow.Rule.Slice.PartMut.{putMid}
-use Rattle.std.specs.Holes.{between}
 use Rattle.std.proofs.shelf.Edits.{length-between, getD-between}
-use Rattle.std.proofs.shelf.Lists.{drop-drop, length-append, length-take, length-drop}
+use Rattle.std.proofs.shelf.Lists.{drop-drop, length-append, length-take, length-take-le, length-drop, getD-take, getD-drop, getD-append-left, getD-append-right}
 use Rattle.std.proofs.shelf.Parts.{between-is, between-putMid, drop-putMid, take-putMid-below}
-use Rattle.std.proofs.shelf.Tests.{cases-order, cases-eq}
+use Rattle.std.proofs.shelf.Tests.{cases-order}
 use Rattle.tables.specs.Plain.{decoded}
 use Rattle.fulltree.specs.Tree.{leaf, stored}
 use Rattle.fulltree.specs.Full.{stretch, with-stretch, pair-of, full-stored}
@@ -66,13 +65,23 @@ module _ (w : ℕ) (cs row : List ℕ) (q : ℕ) (long : q * w + w ≤ length cs
       ap (take (p * w + w - p * w)) (drop-putMid (q * w) w cs row (p * w) m (omega arith) wide)))
       (cases-order p q))
 
-  -- what lies behind the stretch stays
-  pub drop-with-stretch : (n : ℕ) → q * w + w ≤ n → drop n (with-stretch w cs q row) ≡ drop n cs
-  drop-with-stretch n l = rw (← mid w cs row q) (drop-putMid (q * w) w cs row n l (omega arith) wide)
-
   pub length-with-stretch : length (with-stretch w cs q row) ≡ length cs
   unfolding with-stretch
   length-with-stretch = simp (length-append, length-take, length-drop) (omega arith)
+
+  -- each number before the stretch and behind it stays
+  pub number-stays : (c : ℕ) → (c < q * w) ⊎ (q * w + w ≤ c) → getD (with-stretch w cs q row) c 0 ≡ getD cs c 0
+  unfolding with-stretch
+  number-stays c out =
+      let front : length (take (q * w) cs) ≡ q * w = length-take-le (q * w) cs (omega arith) in
+      ⊎-elim
+      (λ (l : c < q * w). getD-append-left (take (q * w) cs) (row ++ drop (q * w + w) cs) 0 c (omega arith) ∙ getD-take (q * w) cs c 0 l)
+      (λ (l : q * w + w ≤ c).
+      getD-append-right (take (q * w) cs) (row ++ drop (q * w + w) cs) (q * w) c 0 front (omega arith)
+      ∙ getD-append-right row (drop (q * w + w) cs) w (c - q * w) 0 wide (omega arith)
+      ∙ getD-drop (q * w + w) cs (c - q * w - w) 0
+      ∙ ap (λ x. getD cs x 0) (omega arith))
+      out
 
 -- what a write to the lent stretch of a pair leaves
 pub stored-back : (k p : ℕ) (cs : List ℕ) (s t i v a x : ℕ) (row : List ℕ) → a ≡ pair-of k s t * (2 * p) → x ≡ v → row ≡ stored p (take (a + 2 * p - a) (drop a cs)) i x → putMid a (a + 2 * p - a) cs row ≡ full-stored k p cs s t i v

@@ -1,13 +1,12 @@
 -- The way up that finds the smallest value from a place on, and the way down that finds the last place with a small one.
 use Prim.Native.Nat.{ℕ, zero, suc, _+_, _-_, _*_, _/_, _%_, _^_, _<_, _≤_, min}
 use native.Mathlib.Omega.{arith}
-use native.Mathlib.Numerals.{add-one}
 use mathlib.Core.Path.{_≡_, refl, sym, ap, _∙_}
-use mathlib.Core.Bool.{Bool, true, false, cond}
+use mathlib.Core.Bool.{true, false}
 use mathlib.Core.List.{List}
 use mathlib.Core.Logic.{_≢_, _⊎_, inl, inr, ⊎-elim}
-use lib.ListN.{length, getD}
-use lib.Dec.{eqb, ltb, leb}
+use lib.ListN.{getD}
+use lib.Dec.{leb}
 use Rattle.std.proofs.shelf.Bits.{pow-pos}
 use Rattle.std.proofs.shelf.Ways.{tells}
 use Rattle.std.proofs.shelf.Tests.{cases-eq, cases-lt, cases-bool, le-leb, lt-leb, leb-true, leb-false, eq-eqb, ne-eqb}
@@ -15,9 +14,9 @@ use Rattle.std.specs.declared.option.Option.{Option}
 use Rattle.std.specs.declared.option.Option.the-variants.{Some, None}
 use Rattle.tables.specs.Meaning.{least-of, last-of, smaller, at-most}
 use Rattle.tables.specs.Plain.{decoded}
-use Rattle.tables.proofs.Extremes.{least-none, least-more, last-more}
+use Rattle.tables.proofs.Extremes.{least-none, least-more}
 use Rattle.fulltree.specs.Leaves.{pow-twice}
-use Rattle.fulltree.specs.Tree.{node, leaf, lower, Tree, with-right, way-down}
+use Rattle.fulltree.specs.Tree.{node, leaf, Tree, with-right, way-down}
 use Rattle.fulltree.proofs.Powers.{pow-le, pow-more}
 
 pub smaller-none : (a : Option ℕ) → smaller a None ≡ a
@@ -106,11 +105,11 @@ pub record Down (p : ℕ) (row : List ℕ) (j q : ℕ) : Type 0 where
   pub past : (c : ℕ) → q < c → c < 2 * 2 ^ h → j < getD row c 0
 
 -- the last place whose value is at most j
-last-is : (f : ℕ → Option ℕ) (j n i : ℕ) → i < n → at-most j (f i) ≡ true → ((c : ℕ) → i < c → c < n → at-most j (f c) ≡ false) → last-of f j n ≡ Some i
-last-is f j zero i l here past = absurd (omega arith)
-last-is f j (suc n) i l here past =
+last-at : (f : ℕ → Option ℕ) (j n i : ℕ) → i < n → at-most j (f i) ≡ true → ((c : ℕ) → i < c → c < n → at-most j (f c) ≡ false) → last-of f j n ≡ Some i
+last-at f j zero i l here past = absurd (omega arith)
+last-at f j (suc n) i l here past =
     ⊎-elim
-    (λ (b : i < n). rw (past n b (omega arith)) (last-is f j n i b here (λ c x y. past c x (omega arith))))
+    (λ (b : i < n). rw (past n b (omega arith)) (last-at f j n i b here (λ c x y. past c x (omega arith))))
     (λ (b : n ≤ i). let same : i ≡ n = omega arith in let here′ : at-most j (f n) ≡ true = rw same at here in rw here′ (ap Some (sym same)))
     (cases-lt i n)
 
@@ -119,11 +118,11 @@ last-no f j zero none = refl
 last-no f j (suc n) none = rw (none n (omega arith)) (last-no f j n (λ c l. none c (omega arith)))
 
 -- 65,535 is greater than j, so the numbers tell what the values are
-at-most-is : (j v : ℕ) → j < 65535 → v ≤ j → at-most j (decoded v) ≡ true
-at-most-is j v few l = grind (arith, tells)
+at-most-true : (j v : ℕ) → j < 65535 → v ≤ j → at-most j (decoded v) ≡ true
+at-most-true j v few l = grind (arith, tells)
 
-at-most-not : (j v : ℕ) → j < v → at-most j (decoded v) ≡ false
-at-most-not j v l = grind (arith, tells)
+at-most-false : (j v : ℕ) → j < v → at-most j (decoded v) ≡ false
+at-most-false j v l = grind (arith, tells)
 
 module _ (p : ℕ) (row : List ℕ) (tree : Tree p row) where
   some : 0 < p
@@ -182,7 +181,7 @@ module _ (p : ℕ) (row : List ℕ) (tree : Tree p row) where
   pub down-none : (j : ℕ) → j < getD row 1 0 → None ≡ last-of (leaf p row) j p
   down-none j top =
       let is = tree .power .1 in
-      sym (last-no (leaf p row) j p (λ c l. at-most-not j (getD row (p + c) 0) (level-past j top (tree .power .0) (omega arith) (p + c) (omega arith) (omega arith))))
+      sym (last-no (leaf p row) j p (λ c l. at-most-false j (getD row (p + c) 0) (level-past j top (tree .power .0) (omega arith) (p + c) (omega arith) (omega arith))))
 
   pub down-starts : (j : ℕ) → getD row 1 0 ≤ j → Down p row j 1
   down-starts j top = record { h = 0; from = omega arith; to = omega arith; within = omega (arith, some); here = top; past = λ c a b. absurd (omega arith) }
@@ -221,7 +220,7 @@ module _ (p : ℕ) (row : List ℕ) (tree : Tree p row) where
       let level : 2 ^ down .h ≡ p = omega (arith, down .within, pow-le-or (down .h) (tree .power .0)) in
       let at : p + (q - p) ≡ q = omega arith in
       let i = q - p in
-      (omega arith, sym (last-is (leaf p row) j p i (omega arith) (rw at (at-most-is j (getD row q 0) few (down .here))) (λ c x y. at-most-not j (getD row (p + c) 0) (down .past (p + c) (omega arith) (omega arith)))))
+      (omega arith, sym (last-at (leaf p row) j p i (omega arith) (rw at (at-most-true j (getD row q 0) few (down .here))) (λ c x y. at-most-false j (getD row (p + c) 0) (down .past (p + c) (omega arith) (omega arith)))))
     where
       pow-le-or : (a b : ℕ) → (2 * 2 ^ a ≤ 2 ^ b) ⊎ (2 ^ b ≤ 2 ^ a)
       pow-le-or a b = ⊎-elim (λ (x : a < b). inl (omega (arith, pow-twice a, pow-le (suc a) b x))) (λ (x : b ≤ a). inr (pow-le b a x)) (cases-lt a b)

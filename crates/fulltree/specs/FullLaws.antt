@@ -1,23 +1,22 @@
 -- A full tree's meaning is lawful.
-use Prim.Native.Nat.{ℕ, zero, suc, _+_, _*_, _/_, _%_, _<_, _≤_}
+use Prim.Native.Nat.{ℕ, suc, _+_, _*_, _/_, _%_, _<_, _≤_}
 use native.Mathlib.Nat.{suc-mul}
 use native.Mathlib.Omega.{arith}
-use mathlib.Core.Path.{_≡_, refl, sym}
+use mathlib.Core.Path.{_≡_, refl}
 use mathlib.Core.List.{List}
-use mathlib.Core.Bool.{Bool, true, false, cond, _&&_}
-use mathlib.Core.Logic.{⊎-elim}
+use mathlib.Core.Bool.{Bool, true, false, cond, _&&_, _||_}
 use lib.ListN.{getD}
 use lib.Dec.{ltb, eqb}
 use Rattle.std.specs.declared.option.Option.{Option}
 use Rattle.std.specs.declared.option.Option.the-variants.{Some, None}
 use Rattle.std.proofs.shelf.Bits.{mul-le, mul-add-lt}
-use Rattle.std.proofs.shelf.Tests.{cases-lt, and-parts, or-cases, ltb-true, le-ltb, eqb-true}
+use Rattle.std.proofs.shelf.Tests.{ltb-true, le-ltb}
+use Rattle.std.proofs.shelf.Ways.{decides-below-and}
 use Rattle.words.specs.Refusals.{passed}
 use Rattle.tables.specs.Meaning.{Lawful, Small}
 use Rattle.tables.specs.Answers.{allowed}
-use Rattle.tables.specs.Checked.{Inside, inside-from}
+use Rattle.tables.specs.Checked.{inside-from}
 use Rattle.tables.specs.Filled.{filled-le}
-use Rattle.tables.specs.Plain.{decoded}
 use Rattle.tables.specs.PlainLaws.{held}
 use Rattle.fulltree.specs.Leaves.{leaves-of, leaves-enough}
 use Rattle.fulltree.specs.Tree.{leaf, right-at, all-below, tree-sound}
@@ -36,36 +35,20 @@ full-same k n p cs s i = go (full-cell k n p cs s s i) refl
     go (Some j) e = absurd (inside-from k n s s i (full-held k n p cs s s i j e .0) .apart refl)
 
 each-below : (f : ℕ → Bool) (n q : ℕ) → all-below f n ≡ true → q < n → f q ≡ true
-each-below f zero q e l = absurd (omega arith)
-each-below f (suc n) q e l =
-    let h = and-parts (f n) (all-below f n) e in
-    ⊎-elim
-    (λ (b : q < n). each-below f n q (h .1) b)
-    (λ (b : n ≤ q). let same : q ≡ n = omega arith in rw same (h .0))
-    (cases-lt q n)
+each-below f n q e l = decides-below-and f (λ x. f x ≡ true) (all-below f) (λ x. ((λ t. t), (λ t. t))) refl (λ _. refl) n .0 e q l
 
--- a number of a sound tree that stands for a place stands for one below m
-decoded-below : (v m j : ℕ) (b : Bool) → eqb v 65535 ≡ true → cond b None (Some v) ≡ Some j → b ≡ eqb v 65535 → j < m
-decoded-below v m j true e o is = let z : _≡_ {A = ℕ} 0 1 = cc in absurd (omega arith)
-decoded-below v m j false e o is = let z : false ≡ true = cc in let y : _≡_ {A = ℕ} 0 1 = cc in absurd (omega arith)
-
-pub value-lt : (v m j : ℕ) → decoded v ≡ Some j → v < m → j < m
-value-lt v m j o l = go (eqb v 65535) o
-  where
-    go : (b : Bool) → cond b None (Some v) ≡ Some j → j < m
-    go true e = let z : _≡_ {A = ℕ} 0 1 = cc in absurd (omega arith)
-    go false e = let s : v ≡ j = cc in omega arith
+-- a leaf of a tree for m places that stands for a value stands for one below m
+leaf-value : (empty near : Bool) (v m j : ℕ) → (empty || (near && ltb v m)) ≡ true → cond empty None (Some v) ≡ Some j → j < m
+leaf-value true near v m j e o = let z : _≡_ {A = ℕ} 0 1 = cc in absurd (omega arith)
+leaf-value false true v m j e o = let same : v ≡ j = cc in omega (arith, ltb-true v m e)
+leaf-value false false v m j e o = let z : _≡_ {A = ℕ} 0 1 = cc in absurd (omega arith)
 
 leaf-below : (m p : ℕ) (row : List ℕ) (i j : ℕ) → i < p → tree-sound m p row ≡ true → leaf p row i ≡ Some j → j < m
 unfolding tree-sound
 leaf-below m p row i j l sound o =
     let v = getD row (p + i) 0 in
     let at : right-at m p row (p + i) ≡ true = each-below (right-at m p row) (2 * p) (p + i) sound (omega arith) in
-    let at′ = rw (le-ltb (p + i) p (omega arith)) at at in
-    ⊎-elim
-    (λ (e : eqb v 65535 ≡ true). decoded-below v m j (eqb v 65535) e o refl)
-    (λ (e : (ltb (p + i) (p + m) && ltb v m) ≡ true). value-lt v m j o (ltb-true v m (and-parts (ltb (p + i) (p + m)) (ltb v m) e .1)))
-    (or-cases (eqb v 65535) (ltb (p + i) (p + m) && ltb v m) at′)
+    leaf-value (eqb v 65535) (ltb (p + i) (p + m)) v m j (rw (le-ltb (p + i) p (omega arith)) at at) o
 
 places-le : (k n q : ℕ) → places k n q ≤ n
 places-le k n q = go (eqb (q / k) (q % k))

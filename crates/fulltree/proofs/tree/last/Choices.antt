@@ -1,4 +1,4 @@
-use Prim.Native.Nat.{_*_, _-_, _<_}
+use Prim.Native.Nat.{_-_}
 use Rattle.fulltree.proofs.Walks.{Down}
 use Rattle.fulltree.proofs.tree.last.Given as given
 

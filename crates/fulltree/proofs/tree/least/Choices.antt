@@ -1,4 +1,3 @@
-use Prim.Native.Nat.{_<_}
 use Rattle.fulltree.proofs.Walks.{Up}
 use Rattle.fulltree.proofs.tree.least.Given as given
 

@@ -1,7 +1,6 @@
 use native.Mathlib.Omega.{arith}
-use mathlib.Core.Path.{_≡_, refl, sym, ap, _∙_}
-use lib.ListN.{length, set, length-set}
-use Rattle.fulltree.specs.Tree.{lower, mended, stored}
+use lib.ListN.{length-set}
+use Rattle.fulltree.specs.Tree.{stored}
 use Rattle.fulltree.proofs.Mending.{mended-step, mended-top}
 use Rattle.fulltree.proofs.tree.store.Needs as need
 
@@ -13,6 +12,6 @@ mend-again c =
 pub returns : need.returns
 unfolding stored
 returns c =
-    let top = mended-top (c .mend .q) (c .mend .q) (c .mend .row) (c .mend-test .left) in
+    let top = mended-top (c .mend .q) (c .mend .q) (c .mend .row) (omega arith) in
     let at = c .leaf-at-q .ensures in
     cc
