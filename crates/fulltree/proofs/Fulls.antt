@@ -1,5 +1,5 @@
 -- The cells of a full tree and their stretches of the buffer.
-use Prim.Native.Nat.{ℕ, zero, suc, _+_, _-_, _*_, _/_, _%_, _<_, _≤_}
+use Prim.Native.Nat.{ℕ, _+_, _-_, _*_, _/_, _%_, _<_, _≤_}
 use native.Mathlib.Omega.{arith}
 use mathlib.Core.Path.{_≡_, refl, sym, ap, _∙_, fun-ext}
 use mathlib.Core.List.{List}
@@ -7,7 +7,7 @@ use mathlib.Core.Logic.{_⊎_, inl, inr, ⊎-elim}
 use mathlib.Core.Bool.{true, false, cond}
 use lib.Dec.{eqb}
 use lib.ListN.{getD, length, replicate, drop}
-use Rattle.std.proofs.shelf.Bits.{div-mul-add, mod-mul-add, mul-le, mul-add-lt}
+use Rattle.std.proofs.shelf.Bits.{div-mul-add, mod-mul-add, mul-le, mul-lt, mul-add-lt}
 use Rattle.std.proofs.shelf.Lists.{getD-replicate, getD-append-left, length-replicate, length-append}
 use Rattle.std.proofs.shelf.Ways.{tells}
 use Rattle.std.proofs.shelf.Tests.{leb-true, ne-eqb, cases-eq, cases-lt}
@@ -19,14 +19,13 @@ use Rattle.std.specs.Results.{isOk}
 use Rattle.words.specs.declared.Refusal.{Refusal}
 use Rattle.words.specs.Refusals.{passed, if-done}
 use Rattle.words.proofs.Checks.{then-first, then-second, unless-passed}
-use Rattle.tables.specs.Meaning.{one, filled-of, with-cell, full-meaning, Small, least-of, last-of, smaller}
+use Rattle.tables.specs.Meaning.{one, filled-of, with-cell, full-meaning, Small, least-of, last-of}
 use Rattle.tables.specs.Answers.{allowed, valued, sizable, put-answer, put-after, clear-after, cell-answer, least-answer, last-answer}
 use Rattle.tables.specs.Checked.{Inside, inside-from}
 use Rattle.tables.specs.Filled.{filled-le}
 use Rattle.tables.specs.Plain.{decoded, encoded, wiped-front}
 use Rattle.tables.proofs.Allowed.{allowed-from, allowed-or, value-from, sizable-small}
 use Rattle.tables.proofs.Counting.{same-or, set-cell, filled-set, filled-ge, filled-none, room-full}
-use Rattle.tables.proofs.Extremes.{least-more, last-more}
 use Rattle.tables.proofs.Plains.{Fit, decoded-encoded}
 use Rattle.fulltree.specs.Leaves.{leaves-of, leaves-power, leaves-enough, leaves-smallest}
 use Rattle.fulltree.specs.Tree.{leaf, tree-sound, Tree, stored}
@@ -35,7 +34,7 @@ use Rattle.fulltree.specs.declared.full.FullTree.{FullTree}
 use Rattle.fulltree.specs.FullLaws.{full-same, stretch-fits, pair-used, pair-sound}
 use Rattle.fulltree.proofs.Mending.{length-stored, stored-same, stored-other, stored-sound, blank-sound, own-empty, tree-from, sound-tells}
 use Rattle.fulltree.proofs.Stretches.{length-stretch, stretch-number, stretch-same, stretch-other, length-with-stretch}
-use Rattle.fulltree.proofs.Walks.{smaller-none}
+use Rattle.fulltree.proofs.Rows.{least-past, last-past, least-like, last-like}
 
 -- the stretch tells the pair
 pair-tells : (k s t a b : ℕ) → t < k → b < k → pair-of k a b ≡ pair-of k s t → (a ≡ s) × (b ≡ t)
@@ -45,8 +44,8 @@ pair-tells k s t a b lt lb e = (
 )
 
 -- the tree of two different shuttles has all places
-places-all : (k n s t : ℕ) → t < k → (s ≡ t → ⊥) → places k n (pair-of k s t) ≡ n
-places-all k n s t lt apart = rw (div-mul-add s k t lt, mod-mul-add s k t lt, ne-eqb s t apart)
+places-all : (k n s t : ℕ) → Pair k s t → places k n (pair-of k s t) ≡ n
+places-all k n s t pair = rw (div-mul-add s k t (pair .1), mod-mul-add s k t (pair .1), ne-eqb s t (pair .2))
 
 -- and that of a shuttle and itself has none
 places-own : (k n s : ℕ) → s < k → places k n (pair-of k s s) ≡ 0
@@ -55,6 +54,10 @@ places-own k n s l = rw (div-mul-add s k s l, mod-mul-add s k s l) (own s)
     own : (s : ℕ) → cond (eqb s s) 0 n ≡ 0
     own s = grind (arith, tells)
 
+-- the pair of a cell that is allowed
+pub pair-from : (k n s t i : ℕ) → passed ≡ allowed k n s t i → Pair k s t
+pair-from k n s t i ok = let h = inside-from k n s t i (sym ok) in (h .from-below, h .to-below, h .apart)
+
 full-cell-at : (k n p : ℕ) (cs : List ℕ) (s t i : ℕ) → allowed k n s t i ≡ passed → full-cell k n p cs s t i ≡ leaf p (stretch (2 * p) cs (pair-of k s t)) i
 unfolding full-cell
 full-cell-at k n p cs s t i e = rw e
@@ -62,29 +65,6 @@ full-cell-at k n p cs s t i e = rw e
 full-cell-none : (k n p : ℕ) (cs : List ℕ) (s t i : ℕ) → isOk (allowed k n s t i) ≡ false → full-cell k n p cs s t i ≡ None
 unfolding full-cell
 full-cell-none k n p cs s t i e = rw e
-
--- places beyond the last one add nothing
-least-past : (f : ℕ → Option ℕ) (i n e : ℕ) → i ≤ n → ((c : ℕ) → n ≤ c → c < n + e → f c ≡ None) → least-of f i (n + e) ≡ least-of f i n
-least-past f i n zero l none = ap (least-of f i) (omega arith)
-least-past f i n (suc e) l none =
-    let more : n + suc e ≡ n + e + 1 = omega arith in
-    ap (least-of f i) more ∙ least-more f i (n + e) (omega arith) ∙ ap (smaller (least-of f i (n + e))) (none (n + e) (omega arith) (omega arith)) ∙ smaller-none (least-of f i (n + e)) ∙ least-past f i n e l (λ c a b. none c a (omega arith))
-
-last-past : (f : ℕ → Option ℕ) (j n e : ℕ) → ((c : ℕ) → n ≤ c → c < n + e → f c ≡ None) → last-of f j (n + e) ≡ last-of f j n
-last-past f j n zero none = ap (last-of f j) (omega arith)
-last-past f j n (suc e) none =
-    let more : n + suc e ≡ n + e + 1 = omega arith in
-    let empty = none (n + e) (omega arith) (omega arith) in
-    ap (last-of f j) more ∙ last-more f j (n + e) ∙ rw empty (last-past f j n e (λ c a b. none c a (omega arith)))
-
--- rows with the same cells
-least-like : (f g : ℕ → Option ℕ) (i n : ℕ) → ((c : ℕ) → c < n → f c ≡ g c) → least-of f i n ≡ least-of g i n
-least-like f g i zero same = refl
-least-like f g i (suc n) same = rw (same n (omega arith), least-like f g i n (λ c l. same c (omega arith)))
-
-last-like : (f g : ℕ → Option ℕ) (j n : ℕ) → ((c : ℕ) → c < n → f c ≡ g c) → last-of f j n ≡ last-of g j n
-last-like f g j zero same = refl
-last-like f g j (suc n) same = rw (same n (omega arith), last-like f g j n (λ c l. same c (omega arith)))
 
 -- what a full tree's ghost fields say, of k shuttles with n moves, p leaves, u used numbers, m filled cells and the buffer
 pub record Sound (k n p u m : ℕ) (cs : List ℕ) : Type 0 where
@@ -130,12 +110,12 @@ module _ {k n p u m : ℕ} {cs : List ℕ} (sound : Sound k n p u m cs) where
       sym (stretch-number (2 * p) cs q c b) ∙ own-empty p (stretch (2 * p) cs q) tree c b
 
   -- the stretch of two different shuttles
-  module _ (s t : ℕ) (from : s < k) (to : t < k) (apart : s ≡ t → ⊥) where
+  module _ (s t : ℕ) (pair : Pair k s t) where
     pub pair-inside : pair-of k s t * (2 * p) + 2 * p ≤ length cs
-    pair-inside = omega (arith, sound .within, pair-used k n p u cs (sound .small) (sound .wide) (sound .some) (sound .whole) (sound .trees) s t from to apart)
+    pair-inside = omega (arith, sound .within, pair-used k n p u cs (sound .small) (sound .wide) (sound .some) (sound .whole) (sound .trees) s t pair)
 
     pair-tree : tree-sound n p (stretch (2 * p) cs (pair-of k s t)) ≡ true
-    pair-tree = ap (λ x. tree-sound x p (stretch (2 * p) cs (pair-of k s t))) (sym (places-all k n s t to apart)) ∙ pair-sound k n p u cs (sound .small) (sound .wide) (sound .some) (sound .whole) (sound .trees) s t from to apart
+    pair-tree = ap (λ x. tree-sound x p (stretch (2 * p) cs (pair-of k s t))) (sym (places-all k n s t pair)) ∙ pair-sound k n p u cs (sound .small) (sound .wide) (sound .some) (sound .whole) (sound .trees) s t pair
 
     pub tree-of : (row : List ℕ) → row ≡ stretch (2 * p) cs (pair-of k s t) → Tree p row
     tree-of row is =
@@ -149,12 +129,9 @@ module _ {k n p u m : ℕ} {cs : List ℕ} (sound : Sound k n p u m cs) where
         ap decoded is
 
     leaf-at : (i : ℕ) → i < n → full-cell k n p cs s t i ≡ leaf p (stretch (2 * p) cs (pair-of k s t)) i
-    leaf-at i l = full-cell-at k n p cs s t i (allowed-from k n s t i (record { from-below = from; to-below = to; apart = apart; place-below = l }))
+    leaf-at i l = full-cell-at k n p cs s t i (allowed-from k n s t i (record { from-below = pair .0; to-below = pair .1; apart = pair .2; place-below = l }))
 
-  -- of a cell that is allowed, the pair and the place
-  pub pair-from : (s t i : ℕ) → passed ≡ allowed k n s t i → Pair k s t
-  pair-from s t i ok = let h = inside-from k n s t i (sym ok) in (h .from-below, h .to-below, h .apart)
-
+  -- the place of a cell that is allowed has a leaf
   pub place-from : (s t i : ℕ) → passed ≡ allowed k n s t i → i < p
   place-from s t i ok = omega (arith, inside-from k n s t i (sym ok) .place-below, enough)
 
@@ -165,27 +142,31 @@ module _ {k n p u m : ℕ} {cs : List ℕ} (sound : Sound k n p u m cs) where
       Ok r ≡ least-answer (tree-meaning k n p cs) s t i
   least-is s t i row r ok is e =
       let h = inside-from k n s t i (sym ok) in
+      let pair = pair-from k n s t i ok in
       let f = leaf p (stretch (2 * p) cs (pair-of k s t)) in
       let all : p ≡ n + (p - n) = omega (arith, enough) in
-      let past = least-past f i n (p - n) (omega arith) (λ c a b. leaf-past s t (h .from-below) (h .to-below) (h .apart) c a (omega arith)) in
-      rw (← ok) (ap Ok (e ∙ ap (λ x. least-of (leaf p x) i p) is ∙ ap (least-of f i) all ∙ past ∙ sym (least-like (full-cell k n p cs s t) f i n (leaf-at s t (h .from-below) (h .to-below) (h .apart)))))
+      let past = least-past f i n (p - n) (omega arith) (λ c a b. leaf-past s t pair c a (omega arith)) in
+      rw (← ok) (ap Ok (e ∙ ap (λ x. least-of (leaf p x) i p) is ∙ ap (least-of f i) all ∙ past ∙ sym (least-like (full-cell k n p cs s t) f i n (leaf-at s t pair))))
 
   pub last-is : (s t j : ℕ) (row : List ℕ) (r : Option ℕ) → passed ≡ allowed k n s t j → row ≡ stretch (2 * p) cs (pair-of k s t) → r ≡ last-of (leaf p row) j p →
       Ok r ≡ last-answer (tree-meaning k n p cs) s t j
   last-is s t j row r ok is e =
-      let h = inside-from k n s t j (sym ok) in
+      let pair = pair-from k n s t j ok in
       let f = leaf p (stretch (2 * p) cs (pair-of k s t)) in
       let all : p ≡ n + (p - n) = omega (arith, enough) in
-      let past = last-past f j n (p - n) (λ c a b. leaf-past s t (h .from-below) (h .to-below) (h .apart) c a (omega arith)) in
-      rw (← ok) (ap Ok (e ∙ ap (λ x. last-of (leaf p x) j p) is ∙ ap (last-of f j) all ∙ past ∙ sym (last-like (full-cell k n p cs s t) f j n (leaf-at s t (h .from-below) (h .to-below) (h .apart)))))
+      let past = last-past f j n (p - n) (λ c a b. leaf-past s t pair c a (omega arith)) in
+      rw (← ok) (ap Ok (e ∙ ap (λ x. last-of (leaf p x) j p) is ∙ ap (last-of f j) all ∙ past ∙ sym (last-like (full-cell k n p cs s t) f j n (leaf-at s t pair))))
 
   -- a write to one cell
   module _ (s t i : ℕ) (ok : passed ≡ allowed k n s t i) where
     inside : Inside k n s t i
     inside = inside-from k n s t i (sym ok)
 
+    pair : Pair k s t
+    pair = pair-from k n s t i ok
+
     pub write-inside : pair-of k s t * (2 * p) + 2 * p ≤ length cs
-    write-inside = pair-inside s t (inside .from-below) (inside .to-below) (inside .apart)
+    write-inside = pair-inside s t pair
 
     long : length (stretch (2 * p) cs (pair-of k s t)) ≡ 2 * p
     long = length-stretch (2 * p) cs (pair-of k s t) write-inside
@@ -242,12 +223,12 @@ module _ {k n p u m : ℕ} {cs : List ℕ} (sound : Sound k n p u m cs) where
       write-trees q l =
           ⊎-elim
           (λ (e : q ≡ pair-of k s t).
-          rw (e, stretch-same (2 * p) cs new (pair-of k s t) write-inside wide′, places-all k n s t (inside .to-below) (inside .apart))
-          (stored-sound p (stretch (2 * p) cs (pair-of k s t)) i (encoded v) long place-lt n (fit-encoded n i v (inside .place-below) fit) (pair-tree s t (inside .from-below) (inside .to-below) (inside .apart))))
+          rw (e, stretch-same (2 * p) cs new (pair-of k s t) write-inside wide′, places-all k n s t pair)
+          (stored-sound p (stretch (2 * p) cs (pair-of k s t)) i (encoded v) long place-lt n (fit-encoded n i v (inside .place-below) fit) (pair-tree s t pair)))
           (λ ne. rw (stretch-other (2 * p) cs new (pair-of k s t) write-inside wide′ q ne) (sound .trees q l))
           (cases-eq q (pair-of k s t))
 
-      pub write-means : tree-meaning k n p (full-stored k p cs s t i (encoded v)) ≡ with-cell (tree-meaning k n p cs) s t i v
+      write-means : tree-meaning k n p (full-stored k p cs s t i (encoded v)) ≡ with-cell (tree-meaning k n p cs) s t i v
       write-means = ap (full-meaning k n) write-cells
 
       pub write-sound : (m′ : ℕ) → m′ + one (leaf p (stretch (2 * p) cs (pair-of k s t)) i) ≡ m + one v → Sound k n p u m′ (full-stored k p cs s t i (encoded v))
@@ -297,9 +278,8 @@ module _ (k n p u : ℕ) (cs : List ℕ) (small : Small k n) (wide : p ≡ leave
           ⊎-elim
           (λ (bad : isOk (allowed k n s t i) ≡ false). full-cell-none k n p (wiped-front u cs) s t i bad)
           (λ (good : allowed k n s t i ≡ passed).
-          let h = inside-from k n s t i good in
-          let less : i < p = omega (arith, h .place-below, wide, leaves-enough n) in
-          let l = pair-used k n p u (wiped-front u cs) small wide some whole wiped-trees s t (h .from-below) (h .to-below) (h .apart) in
+          let less : i < p = omega (arith, inside-from k n s t i good .place-below, wide, leaves-enough n) in
+          let l = pair-used k n p u (wiped-front u cs) small wide some whole wiped-trees s t (pair-from k n s t i (sym good)) in
           full-cell-at k n p (wiped-front u cs) s t i good ∙ ap decoded (wiped-number (pair-of k s t) (omega arith) (p + i) (omega arith)))
           (allowed-or k n s t i)
 
@@ -324,7 +304,7 @@ one-leaf = refl
 -- a table that is made
 module _ (k n : ℕ) (cs : List ℕ) where
   used-some : Small k n → 0 < numbers-of k n
-  used-some small = omega (arith, small .0, small .2, leaves-enough n, mul-le 1 1 k k (small .0) (small .0), mul-le 1 1 (k * k) (2 * leaves-of n) (omega (arith, mul-le 1 1 k k (small .0) (small .0))) (omega (arith, small .2, leaves-enough n)))
+  used-some small = omega (arith, mul-lt 0 0 (k * k) (2 * leaves-of n) (omega (arith, mul-lt 0 0 k k (small .0) (small .0))) (omega (arith, small .2, leaves-enough n)))
 
   pub made-sound : (r : Result Unit Refusal) → r ≡ full-check k n (length cs) → Sound (if-done r 1 k) (if-done r 1 n) (if-done r 1 (leaves-of n)) (if-done r 0 (numbers-of k n)) 0 (wiped-front (if-done r 0 (numbers-of k n)) cs)
   made-sound (Ok u) e = let h = check-passed k n (length cs) (sym e) in wiped-sound k n (leaves-of n) (numbers-of k n) cs (h .0) refl (h .1) (λ _. used-some (h .0)) (λ _. refl)

@@ -1,4 +1,5 @@
 pub mod Powers
+pub mod Rows
 pub mod Mending
 pub mod Walks
 pub mod Stretches

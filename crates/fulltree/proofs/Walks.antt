@@ -1,7 +1,7 @@
 -- The way up that finds the smallest value from a place on, and the way down that finds the last place with a small one.
 use Prim.Native.Nat.{ℕ, zero, suc, _+_, _-_, _*_, _/_, _%_, _^_, _<_, _≤_, min}
 use native.Mathlib.Omega.{arith}
-use mathlib.Core.Path.{_≡_, refl, sym, ap, _∙_}
+use mathlib.Core.Path.{_≡_, sym, ap, _∙_}
 use mathlib.Core.Bool.{true, false}
 use mathlib.Core.List.{List}
 use mathlib.Core.Logic.{_≢_, _⊎_, inl, inr, ⊎-elim}
@@ -9,69 +9,20 @@ use lib.ListN.{getD}
 use lib.Dec.{leb}
 use Rattle.std.proofs.shelf.Bits.{pow-pos}
 use Rattle.std.proofs.shelf.Ways.{tells}
-use Rattle.std.proofs.shelf.Tests.{cases-eq, cases-lt, cases-bool, le-leb, lt-leb, leb-true, leb-false, eq-eqb, ne-eqb}
+use Rattle.std.proofs.shelf.Tests.{cases-eq, cases-lt, cases-bool, leb-true, leb-false, eq-eqb, ne-eqb}
 use Rattle.std.specs.declared.option.Option.{Option}
 use Rattle.std.specs.declared.option.Option.the-variants.{Some, None}
 use Rattle.tables.specs.Meaning.{least-of, last-of, smaller, at-most}
 use Rattle.tables.specs.Plain.{decoded}
-use Rattle.tables.proofs.Extremes.{least-none, least-more}
+use Rattle.tables.proofs.Extremes.{least-none}
 use Rattle.fulltree.specs.Leaves.{pow-twice}
 use Rattle.fulltree.specs.Tree.{node, leaf, Tree, with-right, way-down}
+use Rattle.fulltree.proofs.Rows.{smaller-none, smaller-assoc, least-first, least-half, least-shift, last-at, last-no}
 use Rattle.fulltree.proofs.Powers.{pow-le, pow-more}
-
-pub smaller-none : (a : Option ℕ) → smaller a None ≡ a
-smaller-none None = refl
-smaller-none (Some x) = refl
-
-smaller-assoc : (a b c : Option ℕ) → smaller (smaller a b) c ≡ smaller a (smaller b c)
-smaller-assoc None b c = refl
-smaller-assoc (Some x) None c = refl
-smaller-assoc (Some x) (Some y) None = refl
-smaller-assoc (Some x) (Some y) (Some z) = ap Some (grind (arith, tells))
 
 -- the smaller of two numbers stands for the smaller of what they stand for
 decoded-min : (a b : ℕ) → a ≤ 65535 → b ≤ 65535 → decoded (min a b) ≡ smaller (decoded a) (decoded b)
 decoded-min a b x y = grind (arith, tells)
-
--- the first of the range, and the rest
-least-first : (f : ℕ → Option ℕ) (l r : ℕ) → l < r → least-of f l r ≡ smaller (f l) (least-of f (l + 1) r)
-least-first f l zero h = absurd (omega arith)
-least-first f l (suc r) h =
-    rw (le-leb l r (omega arith))
-    (⊎-elim
-    (λ (e : l < r). rw (le-leb (l + 1) r (omega arith), least-first f l r e) (smaller-assoc (f l) (least-of f (l + 1) r) (f r)))
-    (λ (e : r ≤ l).
-    let same : l ≡ r = omega arith in
-    rw (lt-leb (l + 1) r (omega arith), least-none f l r e, same) (sym (smaller-none (f r))))
-    (cases-lt l r))
-
--- the numbers from 2 l to 2 r - 1 give what those from l to r - 1 give
-least-half : (f : ℕ → Option ℕ) (l r : ℕ) → ((q : ℕ) → l ≤ q → q < r → f q ≡ smaller (f (2 * q)) (f (2 * q + 1))) → least-of f (2 * l) (2 * r) ≡ least-of f l r
-least-half f l zero h = refl
-least-half f l (suc r) h =
-    let e : 2 * suc r ≡ 2 * r + 1 + 1 = omega arith in
-    ⊎-elim
-    (λ (past : r < l). least-none f (2 * l) (2 * suc r) (omega arith) ∙ sym (least-none f l (suc r) past))
-    (λ (within : l ≤ r).
-    ap (least-of f (2 * l)) e
-    ∙ least-more f (2 * l) (2 * r + 1) (omega arith)
-    ∙ ap (λ x. smaller x (f (2 * r + 1))) (least-more f (2 * l) (2 * r) (omega arith) ∙ ap (λ x. smaller x (f (2 * r))) (least-half f l r (λ q a b. h q a (omega arith))))
-    ∙ smaller-assoc (least-of f l r) (f (2 * r)) (f (2 * r + 1))
-    ∙ ap (smaller (least-of f l r)) (sym (h r within (omega arith)))
-    ∙ rw (le-leb l r within))
-    (cases-lt r l)
-
--- the same at other places
-least-shift : (f : ℕ → Option ℕ) (n i m : ℕ) → least-of (λ c. f (n + c)) i m ≡ least-of f (n + i) (n + m)
-least-shift f n i zero = sym (least-none f (n + i) (n + 0) (omega arith))
-least-shift f n i (suc m) =
-    let e : n + suc m ≡ n + m + 1 = omega arith in
-    ⊎-elim
-    (λ (past : m < i). least-none (λ c. f (n + c)) i (suc m) past ∙ sym (least-none f (n + i) (n + suc m) (omega arith)))
-    (λ (within : i ≤ m).
-    rw (le-leb i m within)
-    (ap (λ x. smaller x (f (n + m))) (least-shift f n i m) ∙ sym (least-more f (n + i) (n + m) (omega arith)) ∙ ap (least-of f (n + i)) (sym e)))
-    (cases-lt m i)
 
 -- one step up from q, whose level ends before 4 b
 least-turn : (f : ℕ → Option ℕ) (best : Option ℕ) (q b : ℕ) → q < 2 * (2 * b) → ((c : ℕ) → q / 2 < c → c < 2 * b → f c ≡ smaller (f (2 * c)) (f (2 * c + 1))) →
@@ -103,19 +54,6 @@ pub record Down (p : ℕ) (row : List ℕ) (j q : ℕ) : Type 0 where
   pub within : 2 ^ h ≤ p
   pub here : getD row q 0 ≤ j
   pub past : (c : ℕ) → q < c → c < 2 * 2 ^ h → j < getD row c 0
-
--- the last place whose value is at most j
-last-at : (f : ℕ → Option ℕ) (j n i : ℕ) → i < n → at-most j (f i) ≡ true → ((c : ℕ) → i < c → c < n → at-most j (f c) ≡ false) → last-of f j n ≡ Some i
-last-at f j zero i l here past = absurd (omega arith)
-last-at f j (suc n) i l here past =
-    ⊎-elim
-    (λ (b : i < n). rw (past n b (omega arith)) (last-at f j n i b here (λ c x y. past c x (omega arith))))
-    (λ (b : n ≤ i). let same : i ≡ n = omega arith in let here′ : at-most j (f n) ≡ true = rw same at here in rw here′ (ap Some (sym same)))
-    (cases-lt i n)
-
-last-no : (f : ℕ → Option ℕ) (j n : ℕ) → ((c : ℕ) → c < n → at-most j (f c) ≡ false) → last-of f j n ≡ None
-last-no f j zero none = refl
-last-no f j (suc n) none = rw (none n (omega arith)) (last-no f j n (λ c l. none c (omega arith)))
 
 -- 65,535 is greater than j, so the numbers tell what the values are
 at-most-true : (j v : ℕ) → j < 65535 → v ≤ j → at-most j (decoded v) ≡ true

@@ -20,7 +20,7 @@ use Rattle.tables.specs.Filled.{filled-le}
 use Rattle.tables.specs.PlainLaws.{held}
 use Rattle.fulltree.specs.Leaves.{leaves-of, leaves-enough}
 use Rattle.fulltree.specs.Tree.{leaf, right-at, all-below, tree-sound}
-use Rattle.fulltree.specs.Full.{stretch, pair-of, places, full-cell, tree-meaning}
+use Rattle.fulltree.specs.Full.{stretch, pair-of, places, full-cell, tree-meaning, Pair}
 
 -- a filled cell is allowed, and a leaf stands for what it holds
 full-held : (k n p : ℕ) (cs : List ℕ) (s t i j : ℕ) → full-cell k n p cs s t i ≡ Some j → (allowed k n s t i ≡ passed) × (leaf p (stretch (2 * p) cs (pair-of k s t)) i ≡ Some j)
@@ -64,16 +64,16 @@ stretch-fits r w q l = omega (arith, mul-le (suc q) w r w l (omega arith), suc-m
 module _ (k n p u : ℕ) (cs : List ℕ) (small : Small k n) (wide : p ≡ leaves-of n) (some : 1 < k → 0 < u) (whole : 0 < u → u ≡ k * k * (2 * p))
     (trees : (q : ℕ) → q * (2 * p) < u → tree-sound (places k n q) p (stretch (2 * p) cs q) ≡ true) where
   -- with two different shuttles in the table, there are two, and all stretches of the pairs are in use
-  pub pair-used : (s t : ℕ) → s < k → t < k → (s ≡ t → ⊥) → pair-of k s t * (2 * p) + 2 * p ≤ u
-  pair-used s t a b c =
-      let two : 1 < k = two-of s t a b c in
-      omega (arith, whole (some two), stretch-fits (k * k) (2 * p) (pair-of k s t) (mul-add-lt s k t k a b))
+  pub pair-used : (s t : ℕ) → Pair k s t → pair-of k s t * (2 * p) + 2 * p ≤ u
+  pair-used s t pair =
+      let two : 1 < k = two-of s t (pair .0) (pair .1) (pair .2) in
+      omega (arith, whole (some two), stretch-fits (k * k) (2 * p) (pair-of k s t) (mul-add-lt s k t k (pair .0) (pair .1)))
     where
       two-of : (s t : ℕ) → s < k → t < k → (s ≡ t → ⊥) → 1 < k
       two-of s t a b c = omega arith
 
-  pub pair-sound : (s t : ℕ) → s < k → t < k → (s ≡ t → ⊥) → tree-sound (places k n (pair-of k s t)) p (stretch (2 * p) cs (pair-of k s t)) ≡ true
-  pair-sound s t a b c = trees (pair-of k s t) (omega (arith, pair-used s t a b c, wide, leaves-enough n, small .2))
+  pub pair-sound : (s t : ℕ) → Pair k s t → tree-sound (places k n (pair-of k s t)) p (stretch (2 * p) cs (pair-of k s t)) ≡ true
+  pair-sound s t pair = trees (pair-of k s t) (omega (arith, pair-used s t pair, wide, leaves-enough n, small .2))
 
   pub full-lawful : Lawful (tree-meaning k n p cs)
   full-lawful = record {
@@ -84,7 +84,7 @@ module _ (k n p u : ℕ) (cs : List ℕ) (small : Small k n) (wide : p ≡ leave
     value-below = λ s t i j e.
         let h = full-held k n p cs s t i j e in
         let g = inside-from k n s t i (h .0) in
-        let sound′ = pair-sound s t (g .from-below) (g .to-below) (g .apart) in
+        let sound′ = pair-sound s t (g .from-below, g .to-below, g .apart) in
         omega (arith, places-le k n (pair-of k s t), leaf-below (places k n (pair-of k s t)) p (stretch (2 * p) cs (pair-of k s t)) i j (omega (arith, g .place-below, wide, leaves-enough n)) sound′ (h .1));
     cell-inside = λ s t i j e. let h = inside-from k n s t i (full-held k n p cs s t i j e .0) in (h .from-below, h .to-below, h .apart, h .place-below);
     filled-le = filled-le k n (full-cell k n p cs) (full-same k n p cs) (small .0);

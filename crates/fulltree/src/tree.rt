@@ -60,11 +60,8 @@ fn way_down(row: &[u16], j: u16, q: usize) -> usize
     requires { ⌜ 2 * q + 1 < length (now row) ⌝ }
     ensures { λ r. ⌜ r ≡ way-down (now (row .entry)) j q ⌝ }
 {
-    if row[2 * q + 1] <= j {
-        2 * q + 1
-    } else {
-        2 * q
-    }
+    let right = 2 * q + 1;
+    if row[right] <= j { right } else { 2 * q }
 }
 
 // What the place i holds.

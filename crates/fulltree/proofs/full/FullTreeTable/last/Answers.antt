@@ -3,7 +3,7 @@ use Rattle.fulltree.proofs.Fulls.{sound-of, pair-from, place-from, leaves-few,
 use Rattle.fulltree.proofs.full.FullTreeTable.last.Needs as need
 
 pub tree-requires : need.tree-requires
-tree-requires c κs = pair-from (sound-of (c .args .self .now)) _ _ _ (c .in-Continue-check-cell .ensures tt)
+tree-requires c κs = pair-from _ _ _ _ _ (c .in-Continue-check-cell .ensures tt)
 
 pub last-requires : need.last-requires
 last-requires c κs =
