@@ -150,15 +150,14 @@ module _ (p : ℕ) (row : List ℕ) (tree : Tree p row) where
       }))
       (cases-bool (leb (getD row (2 * q + 1) 0) j))
 
-  pub down-ends : (j q : ℕ) → j < 65535 → p ≤ q → Down p row j q → (q - p < p) × (Some (q - p) ≡ last-of (leaf p row) j p)
+  pub down-ends : (j q : ℕ) → j < 65535 → p ≤ q → Down p row j q → Some (q - p) ≡ last-of (leaf p row) j p
   down-ends j q few l down =
       let is = tree .power .1 in
       let from = down .from in
       let to = down .to in
       let level : 2 ^ down .h ≡ p = omega (arith, down .within, pow-le-or (down .h) (tree .power .0)) in
       let at : p + (q - p) ≡ q = omega arith in
-      let i = q - p in
-      (omega arith, sym (last-at (leaf p row) j p i (omega arith) (rw at (at-most-true j (getD row q 0) few (down .here))) (λ c x y. at-most-false j (getD row (p + c) 0) (down .past (p + c) (omega arith) (omega arith)))))
+      sym (last-at (leaf p row) j p (q - p) (omega arith) (rw at (at-most-true j (getD row q 0) few (down .here))) (λ c x y. at-most-false j (getD row (p + c) 0) (down .past (p + c) (omega arith) (omega arith))))
     where
       pow-le-or : (a b : ℕ) → (2 * 2 ^ a ≤ 2 ^ b) ⊎ (2 ^ b ≤ 2 ^ a)
       pow-le-or a b = ⊎-elim (λ (x : a < b). inl (omega (arith, pow-twice a, pow-le (suc a) b x))) (λ (x : b ≤ a). inr (pow-le b a x)) (cases-lt a b)

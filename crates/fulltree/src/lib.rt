@@ -1,3 +1,3 @@
-// The full tree: a table that answers from trees of least values, one for each pair of shuttles, so that each call takes a path from a leaf to the top and no more.
+// The full tree: a table with a tree of least values for each ordered pair of shuttles, so that put, clear, least and last each take one path of one tree.
 pub mod full;
 pub mod tree;

@@ -11,4 +11,4 @@ pub down-again : need.down-again
 down-again c = simp (c .way-down-q .ensures) (down-turns (c .args .leaves) (c .args .row .now) (c .pre .tree) (c .args .j) (c .down .q) (c .down-test .taken) (c .down .inv))
 
 pub returns : need.returns
-returns c = down-ends (c .args .leaves) (c .args .row .now) (c .pre .tree) (c .args .j) (c .down .q) (c .pre .value) (c .down-test .left) (c .down .inv) .1
+returns c = down-ends (c .args .leaves) (c .args .row .now) (c .pre .tree) (c .args .j) (c .down .q) (c .pre .value) (c .down-test .left) (c .down .inv)

@@ -6,7 +6,7 @@ use Rattle.fulltree.proofs.tree.store.Needs as need
 
 pub mend-again : need.mend-again
 mend-again c =
-    let step = mended-step (c .mend .q) (c .mend .row) (c .mend-test .taken) in
+    let step = mended-step (c .mend .q) (c .mend .row) (omega arith) in
     (omega arith, simp length-set (omega arith), cc)
 
 pub returns : need.returns
