@@ -75,7 +75,7 @@ abbrev pub Fit : ℕ → Option ℕ → Type 0
 Fit n None = Unit {0}
 Fit n (Some j) = j < n
 
-decoded-encoded : (n : ℕ) (v : Option ℕ) → n ≤ 4096 → Fit n v → decoded (encoded v) ≡ v
+pub decoded-encoded : (n : ℕ) (v : Option ℕ) → n ≤ 4096 → Fit n v → decoded (encoded v) ≡ v
 decoded-encoded n None few h = refl
 decoded-encoded n (Some j) few h = grind (arith, tells)
 

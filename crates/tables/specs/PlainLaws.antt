@@ -28,7 +28,7 @@ place-lt k n s t i ls lt li =
     omega (arith, mul-add-lt (s * k + t) n i (k * k) row li)
 
 -- a filled cell is allowed, and a number stands for what it holds
-held : (r : Result Unit Refusal) (o : Option ℕ) (j : ℕ) → cond (isOk r) o None ≡ Some j → (r ≡ passed) × (o ≡ Some j)
+pub held : (r : Result Unit Refusal) (o : Option ℕ) (j : ℕ) → cond (isOk r) o None ≡ Some j → (r ≡ passed) × (o ≡ Some j)
 held (Ok u) o j e = (refl, e)
 held (Err x) o j e = let z : _≡_ {A = ℕ} 0 1 = cc in absurd (omega arith)
 

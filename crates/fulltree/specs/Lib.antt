@@ -1,0 +1,4 @@
+pub mod Leaves
+pub mod Tree
+pub mod Full
+pub mod FullLaws
