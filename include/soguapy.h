@@ -8,13 +8,14 @@
 /* What a refused call returns is this number plus the refusal's. */
 #define SOGUAPY_REFUSED 2147483648u
 
-/* The table kinds that there are. */
+/* The table kinds that there are. They report alike, byte for byte. */
 #define SOGUAPY_PLAIN 0u
+#define SOGUAPY_FULL 1u
 
 /* Carries out the edit file and writes its report to the front of the buffer.
  * Returns the report's length; the bytes behind it stay as they were.
  * A refused call returns SOGUAPY_REFUSED plus the refusal's number, and leaves every byte of the buffer as it was.
- * It allocates nothing, keeps nothing between calls, and takes less than 32 KiB of stack.
+ * It allocates nothing, keeps nothing between calls, and takes less than 64 KiB of stack.
  * Where a length is 0 the pointer may be null. */
 uint32_t soguapy_report(uint32_t kind, const uint8_t *file, size_t file_len, uint8_t *report, size_t report_len);
 

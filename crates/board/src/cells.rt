@@ -21,7 +21,13 @@ fn earlier(old: Option<u16>, j: u16) -> u16
 }
 
 // Lets a cell hold j, unless it holds less.
-pub fn put_earlier<T: Table>(table: &mut T, s: u16, t: u16, i: u16, j: u16) -> Result<(), Refusal>
+pub(crate) fn put_earlier<T: Table>(
+    table: &mut T,
+    s: u16,
+    t: u16,
+    i: u16,
+    j: u16,
+) -> Result<(), Refusal>
     requires cell { ⌜ passed ≡ taken (T·Table .meaning (now table)) s t i ⌝ }
     requires value { ⌜ j < T·Table .meaning (now table) .moves ⌝ }
     ensures answer { λ r. ⌜ r ≡ room (T·Table .meaning (now (table .entry))) (T·Table .meaning (now (table .entry)) .cell s t i) ⌝ }
@@ -33,7 +39,7 @@ pub fn put_earlier<T: Table>(table: &mut T, s: u16, t: u16, i: u16, j: u16) -> R
 }
 
 // Lets a cell hold this value, or nothing.
-pub fn set_cell<T: Table>(table: &mut T, s: u16, t: u16, i: u16, value: Option<u16>)
+pub(crate) fn set_cell<T: Table>(table: &mut T, s: u16, t: u16, i: u16, value: Option<u16>)
     ensures { λ _. ⌜ T·Table .meaning (now (table .exit)) ≡ set-after (T·Table .meaning (now (table .entry))) s t i value ⌝ }
 {
     let _ = match value {

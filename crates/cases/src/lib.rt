@@ -101,10 +101,44 @@ mod station_call {
         check_eq(with_number(0, 5), REFUSED + 11).note("five shuttles")?;
         check_eq(with_number(2, 0), REFUSED + 11).note("no move")?;
         check_eq(with_number(2, 257), REFUSED + 11).note("257 moves")?;
-        check_eq(soguapy_report(1, &WORKED[0..7], &mut report), REFUSED + 12).note(
+        check_eq(soguapy_report(2, &WORKED[0..7], &mut report), REFUSED + 12).note(
             "another kind, before the form",
         )?;
         check_eq(report[0], 7).note("a refusal writes nothing")
+    }
+
+    // A history of placements, removals and questions on 4 x 16 moves, with some steps that are refused.
+    fn put_history(file: &mut [u8], steps: u16) {
+        put(file, 0, 4);
+        put(file, 2, 16);
+        put(file, 4, steps);
+        put(file, 6, 8);
+        let mut seed = 1u32;
+        for i in 0..steps {
+            seed = seed.wrapping_mul(1664525).wrapping_add(1013904223);
+            let kind = (seed >> 20) % 7;
+            let s = (seed >> 8) % 5;
+            let t = (seed >> 11) % 4;
+            let x = s * 4096 + (seed >> 13) % 17;
+            let y = t * 4096 + (seed >> 24) % 16;
+            let y = if kind == 4 || kind == 5 { t } else { y };
+            put_step(file, i as usize, kind as u16, x as u16, y as u16);
+        }
+    }
+
+    #[test]
+    fn the_kinds_report_alike(rt: LibcRuntime) -> Result<(), Fail> {
+        let mut file = Vec::from_elem(rt.alloc(), 0u8, 2408)?;
+        put_history(file.as_mut_slice(), 400);
+        let mut plain = Vec::from_elem(rt.alloc(), 7u8, 9624)?;
+        let mut full = Vec::from_elem(rt.alloc(), 7u8, 9624)?;
+        let length = soguapy_report(0, file.as_slice(), plain.as_mut_slice());
+        check_eq(
+            soguapy_report(1, file.as_slice(), full.as_mut_slice()),
+            length,
+        )?;
+        check(length > 3000 && length < 9624).note("not refused")?;
+        check(plain.as_slice() == full.as_slice())
     }
 
     #[test]

@@ -11,14 +11,14 @@ use tables::checks::smaller;
 const EMPTY: u16 = 65535;
 
 // What a number stands for.
-pub fn decode(number: u16) -> Option<u16>
+pub(crate) fn decode(number: u16) -> Option<u16>
     ensures { λ r. ⌜ r ≡ decoded number ⌝ }
 {
     if number == EMPTY { None } else { Some(number) }
 }
 
 // The number that stands for what a place holds.
-pub fn encode(value: Option<u16>) -> u16
+pub(crate) fn encode(value: Option<u16>) -> u16
     ensures { λ r. ⌜ r ≡ encoded value ⌝ }
 {
     match value {
@@ -28,7 +28,7 @@ pub fn encode(value: Option<u16>) -> u16
 }
 
 // Where the leaf of the place i is.
-pub fn leaf_at(leaves: usize, i: u16) -> usize
+pub(crate) fn leaf_at(leaves: usize, i: u16) -> usize
     requires { ⌜ leaves < 65536 ⌝ }
     ensures { λ r. ⌜ r ≡ leaves + i ⌝ }
 {
@@ -65,7 +65,7 @@ fn way_down(row: &[u16], j: u16, q: usize) -> usize
 }
 
 // What the place i holds.
-pub fn held(row: &[u16], leaves: usize, i: u16) -> Option<u16>
+pub(crate) fn held(row: &[u16], leaves: usize, i: u16) -> Option<u16>
     requires tree { ⌜ Tree leaves (now row) ⌝ }
     requires inside { ⌜ i < leaves ⌝ }
     ensures { λ r. ⌜ r ≡ leaf leaves (now (row .entry)) i ⌝ }
@@ -74,7 +74,7 @@ pub fn held(row: &[u16], leaves: usize, i: u16) -> Option<u16>
 }
 
 // Writes the number at the leaf of the place i, and mends each number above it.
-pub fn store(row: &mut [u16], leaves: usize, i: u16, number: u16)
+pub(crate) fn store(row: &mut [u16], leaves: usize, i: u16, number: u16)
     requires long { ⌜ length (now row) ≡ 2 * leaves ⌝ }
     requires few { ⌜ leaves < 65536 ⌝ }
     requires inside { ⌜ i < leaves ⌝ }
@@ -89,7 +89,7 @@ pub fn store(row: &mut [u16], leaves: usize, i: u16, number: u16)
 }
 
 // The smallest value from the place i on: that of its leaf and, on the way to the top, of each number that stands to the right of the way.
-pub fn least(row: &[u16], leaves: usize, i: u16) -> Option<u16>
+pub(crate) fn least(row: &[u16], leaves: usize, i: u16) -> Option<u16>
     requires tree { ⌜ Tree leaves (now row) ⌝ }
     requires inside { ⌜ i < leaves ⌝ }
     ensures { λ r. ⌜ r ≡ least-of (leaf leaves (now (row .entry))) i leaves ⌝ }
@@ -104,7 +104,7 @@ pub fn least(row: &[u16], leaves: usize, i: u16) -> Option<u16>
 }
 
 // The greatest place that holds at most j: from the top down, always as far to the right as such a place is.
-pub fn last(row: &[u16], leaves: usize, j: u16) -> Option<u16>
+pub(crate) fn last(row: &[u16], leaves: usize, j: u16) -> Option<u16>
     requires tree { ⌜ Tree leaves (now row) ⌝ }
     requires value { ⌜ j < 65535 ⌝ }
     ensures { λ r. ⌜ r ≡ last-of (leaf leaves (now (row .entry))) j leaves ⌝ }

@@ -31,7 +31,7 @@ fn fill<T: Table>(table: &T, bounds: &[u16; 16], out: &mut [u16]) -> Result<usiz
 }
 
 // With no move within the bounds, all are taken as they come.
-pub fn list_moves<T: Table>(table: &T, out: &mut [u16]) -> Result<usize, Refusal>
+pub(crate) fn list_moves<T: Table>(table: &T, out: &mut [u16]) -> Result<usize, Refusal>
     ensures { λ r. ⌜ Listed-so (T·Table .meaning (now (table .entry))) (now (out .entry)) (now (out .exit)) r ⌝ }
 {
     fill(table, &[0; 16], out)
@@ -73,7 +73,7 @@ fn check_move(k: u16, n: u16, v: u16) -> Result<(), Refusal>
 }
 
 // The bounds are those of v.
-pub fn push_move<T: Table>(table: &T, v: u16, out: &mut [u16]) -> Result<usize, Refusal>
+pub(crate) fn push_move<T: Table>(table: &T, v: u16, out: &mut [u16]) -> Result<usize, Refusal>
     ensures { λ r. ⌜ Pushed-so (T·Table .meaning (now (table .entry))) v (now (out .entry)) (now (out .exit)) r ⌝ }
 {
     let sizes = table.sizes();

@@ -39,7 +39,7 @@ fn goes<T: Table>(table: &T, done: &[u16; 16], t: u16, j: u16) -> bool
 }
 
 // Whether the move of this code may come next.
-pub fn follows<T: Table>(table: &T, done: &[u16; 16], code: u16) -> bool
+pub(crate) fn follows<T: Table>(table: &T, done: &[u16; 16], code: u16) -> bool
     ensures { λ b. ⌜ Decides b (Follows (T·Table .meaning (now (table .entry))) (now (done .entry)) (move-of code)) ⌝ }
 {
     let sizes = table.sizes();
@@ -70,7 +70,7 @@ fn pick<T: Table>(table: &T, done: &[u16; 16], bounds: &[u16; 16]) -> Option<u16
 }
 
 // The shuttle to take: one within the bounds where there is one, or else any.
-pub fn next<T: Table>(table: &T, done: &[u16; 16], bounds: &[u16; 16]) -> Option<u16>
+pub(crate) fn next<T: Table>(table: &T, done: &[u16; 16], bounds: &[u16; 16]) -> Option<u16>
     ensures { λ r. ⌜ Nexts (T·Table .meaning (now (table .entry))) (now (done .entry)) (now (bounds .entry)) r ⌝ }
 {
     match pick(table, done, bounds) {

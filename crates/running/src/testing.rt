@@ -4,7 +4,7 @@ use crate::ready::follows;
 use tables::table::Table;
 
 // Each move has to be ready after those that stand earlier. The length is compared first, so that none can be missing.
-pub fn is_running<T: Table>(table: &T, codes: &[u16]) -> bool
+pub(crate) fn is_running<T: Table>(table: &T, codes: &[u16]) -> bool
     ensures { λ b. ⌜ Tests-so (T·Table .meaning (now (table .entry))) (now (codes .entry)) b ⌝ }
 {
     let sizes = table.sizes();

@@ -1,7 +1,8 @@
 -- What the station answers: the report of a run that has the law.
 use mathlib.Core.Path.{_≡_}
+use mathlib.Core.Bool.{true}
 use mathlib.Core.List.{List, [], _∷_, _++_}
-use Prim.Native.Nat.{ℕ, _+_, _-_, _*_}
+use Prim.Native.Nat.{ℕ, _+_, _-_, _*_, _≤_}
 use lib.ListN.{length, drop}
 use Rattle.std.specs.declared.option.Option.{Option}
 use Rattle.std.specs.declared.option.Option.the-variants.{Some, None}
@@ -16,7 +17,7 @@ use Rattle.runs.specs.declared.calls.Ask.{Ask}
 use Rattle.runs.specs.declared.calls.Answer.{Answer}
 use Rattle.runs.specs.declared.calls.Answer.the-variants.{Refused}
 use Rattle.runs.specs.Law.{Event, Law, Step-keeps}
-use Rattle.station.specs.Edit.{shuttles-of, moves-of, count-of, steps-of, file-check}
+use Rattle.station.specs.Edit.{shuttles-of, moves-of, count-of, steps-of, file-check, well-formed, sizes-taken}
 use Rattle.station.specs.Report.{report-of}
 
 -- the calls among some steps, with their answers; none of them has a slice
@@ -46,7 +47,7 @@ pub record Reported (b : Limits) (file old new : List ℕ) (r : ℕ) : Type 0 wh
   pub size : r ≡ length (report-of (shuttles-of file) (moves-of file) (count-of file) answers)
   pub bytes : new ≡ report-of (shuttles-of file) (moves-of file) (count-of file) answers ++ drop r old
 
--- the limits of the station's board: a plain table of the file's sizes, and 1,024 records for the waits
+-- the limits of the station's board: a table of the file's sizes that can fill every cell, and 1,024 records for the waits
 abbrev pub station-limits : List ℕ → Limits
 station-limits file = record {
   shuttles = shuttles-of file;
@@ -68,3 +69,14 @@ Station kind file old new r = Answers-by (file-check kind file (length old)) fil
 abbrev pub Step-taken : Meaning → Holding → Option Ask → Answer → Meaning → Holding → Type 0
 Step-taken m h None a m′ h′ = (a ≡ Refused (numbered 10)) × (m′ ≡ m) × (h′ ≡ h)
 Step-taken m h (Some q) a m′ h′ = Step-keeps m h q [] a [] m′ h′
+
+-- a file that is taken, and a buffer of so many bytes that has room for its report
+pub record Taken (file : List ℕ) (room : ℕ) : Type 0 where
+  pub formed : well-formed file ≡ true
+  pub sizes : sizes-taken file ≡ true
+  pub space : 24 * (count-of file + 1) ≤ room
+
+-- its report, and that it has at most 24 bytes for the first line and for each step
+pub record Made (file old new : List ℕ) (r : ℕ) : Type 0 where
+  pub reported : Reported (station-limits file) file old new r
+  pub short : r ≤ 24 * (count-of file + 1)

@@ -8,7 +8,7 @@ use runs::calls::Ask;
 use words::Refusal;
 
 // The 16-bit number at a byte's place, high byte first.
-pub fn number(file: &[u8], at: usize) -> u16
+pub(crate) fn number(file: &[u8], at: usize) -> u16
     requires { ⌜ at + 1 < length (now file) ⌝ }
     ensures { λ r. ⌜ r ≡ number-at (now (file .entry)) at ⌝ }
 {
@@ -34,10 +34,10 @@ fn has_sizes(file: &[u8]) -> bool
 }
 
 // Whether the call is taken.
-pub fn check_file(kind: u32, file: &[u8], room: usize) -> Result<(), Refusal>
+pub(crate) fn check_file(kind: u32, file: &[u8], room: usize) -> Result<(), Refusal>
     ensures { λ r. ⌜ r ≡ file-check kind (now (file .entry)) room ⌝ }
 {
-    if kind != 0 {
+    if kind > 1 {
         return Err(Refusal::NoSuchKind);
     }
     if !is_well_formed(file) {
@@ -66,7 +66,7 @@ fn ask_of(kind: u16, x: u16, y: u16) -> Option<Ask>
 }
 
 // The step number i of the file as a call, if its kind is known.
-pub fn ask_at(file: &[u8], i: usize) -> Option<Ask>
+pub(crate) fn ask_at(file: &[u8], i: usize) -> Option<Ask>
     requires { ⌜ 13 + 6 * i < length (now file) ⌝ ∗ ⌜ i < 65536 ⌝ }
     ensures { λ r. ⌜ r ≡ step-at (now (file .entry)) i ⌝ }
 {

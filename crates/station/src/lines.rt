@@ -65,7 +65,7 @@ fn put_finding(out: &mut [u8], at: usize, answer: Answer) -> usize
 }
 
 // Writes the line of the step with this number.
-pub fn put_line(out: &mut [u8], at: usize, number: u32, answer: Answer) -> usize
+pub(crate) fn put_line(out: &mut [u8], at: usize, number: u32, answer: Answer) -> usize
     requires { ⌜ at < 2 ^ 28 ⌝ }
     ensures { λ r. ⌜ Pours (now (out .entry)) at (line number answer) (now (out .exit)) r ⌝ }
 {
@@ -76,7 +76,7 @@ pub fn put_line(out: &mut [u8], at: usize, number: u32, answer: Answer) -> usize
 }
 
 // Writes the first line.
-pub fn put_first_line(out: &mut [u8], shuttles: u16, moves: u16, steps: u16) -> usize
+pub(crate) fn put_first_line(out: &mut [u8], shuttles: u16, moves: u16, steps: u16) -> usize
     ensures { λ r. ⌜ Pours (now (out .entry)) 0 (first-line shuttles moves steps) (now (out .exit)) r ⌝ }
 {
     let first = put_number(out, 0, shuttles as u32);

@@ -7,13 +7,15 @@ ghost use lib.ListN.{length};
 ghost use Rattle.board.specs.Standing.{limits};
 ghost use Rattle.runs.specs.Law.{Step-keeps};
 ghost use Rattle.station.specs.Edit.{well-formed, count-of, step-at};
-ghost use Rattle.station.specs.Station.{Reported, Station, Step-taken};
+ghost use Rattle.station.specs.Station.{Reported, Station, Step-taken, Taken, Made};
 use crate::edit::ask_at;
 use crate::edit::check_file;
 use crate::edit::number;
 use crate::lines::put_first_line;
 use crate::lines::put_line;
 use board::board::Board;
+use fulltree::full::FullTree;
+use fulltree::full::FullTreeTable;
 use runs::calls::Answer;
 use runs::calls::Ask;
 use runs::steps::step;
@@ -67,14 +69,45 @@ fn write_report<T: Table + Drop, S: Store + Drop>(
     at
 }
 
-// The numbers of the largest table that the station takes: 4 shuttles, 256 moves.
-const CELLS: usize = 4096;
+// The numbers of the largest plain table that the station takes: 4 shuttles, 256 moves.
+const PLAIN: usize = 4096;
+
+// The numbers of the largest full tree.
+const FULL: usize = 8192;
 
 // The waits that the station holds at most.
 const WAITS: usize = 1024;
 
 // What a refusal is marked with: the returned number is this one plus the refusal's.
 const REFUSED: u32 = 2147483648;
+
+// The report on a file that is taken, over a plain table.
+fn plain_report(file: &[u8], report: &mut [u8]) -> usize
+    requires { ⌜ Taken (now file) (length (now report)) ⌝ }
+    ensures { λ r. ⌜ Made (now (file .entry)) (now (report .entry)) (now (report .exit)) r ⌝ }
+{
+    let mut cells = [0u16; PLAIN];
+    let mut records = [Wait {
+        first: 0,
+        second: 0,
+    }; WAITS];
+    let table = Plain::make(number(file, 0), number(file, 2), &mut cells);
+    write_report(table, Loose::make(&mut records), file, report)
+}
+
+// The same over a full tree.
+fn full_report(file: &[u8], report: &mut [u8]) -> usize
+    requires { ⌜ Taken (now file) (length (now report)) ⌝ }
+    ensures { λ r. ⌜ Made (now (file .entry)) (now (report .entry)) (now (report .exit)) r ⌝ }
+{
+    let mut cells = [0u16; FULL];
+    let mut records = [Wait {
+        first: 0,
+        second: 0,
+    }; WAITS];
+    let table = FullTree::make(number(file, 0), number(file, 2), &mut cells);
+    write_report(table, Loose::make(&mut records), file, report)
+}
 
 // Reports on an edit file: returns the report's length, or 2,147,483,648 plus the refusal, which leaves every byte of the buffer as it was.
 #[unsafe(no_mangle)]
@@ -84,12 +117,10 @@ pub extern "C" fn soguapy_report(kind: u32, file: &[u8], report: &mut [u8]) -> u
     if let Err(e) = check_file(kind, file, report.len()) {
         return REFUSED + e.number() as u32;
     }
-    let mut cells = [0u16; CELLS];
-    let mut records = [Wait {
-        first: 0,
-        second: 0,
-    }; WAITS];
-    let table = Plain::make(number(file, 0), number(file, 2), &mut cells);
-    let length = write_report(table, Loose::make(&mut records), file, report);
+    let length = if kind == 0 {
+        plain_report(file, report)
+    } else {
+        full_report(file, report)
+    };
     length as u32
 }

@@ -5,7 +5,7 @@ ghost use Rattle.std.specs.Written.{decimal};
 ghost use Rattle.station.specs.Text.{Pours};
 
 // Writes one byte, and says where the next goes.
-pub fn put_byte(out: &mut [u8], at: usize, byte: u8) -> usize
+pub(crate) fn put_byte(out: &mut [u8], at: usize, byte: u8) -> usize
     requires { ⌜ at < 2 ^ 40 ⌝ }
     ensures written { λ r. ⌜ Pours (now (out .entry)) at (byte ∷ []) (now (out .exit)) r ⌝ }
     ensures short { λ r. ⌜ r ≤ at + 1 ⌝ }
@@ -17,7 +17,7 @@ pub fn put_byte(out: &mut [u8], at: usize, byte: u8) -> usize
 }
 
 // Writes a number in decimal digits.
-pub fn put_number(out: &mut [u8], at: usize, n: u32) -> usize
+pub(crate) fn put_number(out: &mut [u8], at: usize, n: u32) -> usize
     requires { ⌜ at < 2 ^ 32 ⌝ }
     ensures written { λ r. ⌜ Pours (now (out .entry)) at (decimal n) (now (out .exit)) r ⌝ }
     ensures short { λ r. ⌜ r ≤ at + 10 ⌝ }
