@@ -1,6 +1,8 @@
-// Cases of the station's call, and of a run on a small aisle.
+// Cases of the station's call, of a run on a small aisle, and of single pairs of every kind of table.
 #[cfg(test)]
 mod aisle;
+#[cfg(test)]
+mod rows;
 
 // The station's call: the worked example, damaged files, short buffers, the longest file, and a full store.
 #[cfg(test)]

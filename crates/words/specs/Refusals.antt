@@ -1,5 +1,5 @@
 -- Refusals by their numbers. Every contract names a refusal by its number, and 0 stands for a call that is done.
-use Prim.Native.Nat.{ℕ, _+_, _≤_}
+use Prim.Native.Nat.{ℕ}
 use mathlib.Core.Path.{_≡_}
 use mathlib.Core.Bool.{Bool, cond}
 use lib.Dec.{eqb}
@@ -23,7 +23,7 @@ number-of BadForm = 10
 number-of BadSize = 11
 number-of NoSuchKind = 12
 
--- the refusal with this number; `numbered-back` says that it is the one
+-- the refusal with this number: `numbered (number-of e)` is e, as the contract of `number` says
 abbrev pub numbered : ℕ → Refusal
 numbered n =
     cond (eqb n 1) NoSuchShuttle
@@ -45,11 +45,6 @@ refused n = Err (numbered n)
 -- the check is passed
 abbrev pub passed : Result Unit Refusal
 passed = Ok tt
-
--- what a call returns: 0 when it is done, or its refusal's number
-abbrev pub returned : {X : Type 0} → Result X Refusal → ℕ
-returned (Ok x) = 0
-returned (Err e) = number-of e
 
 -- the second answer, unless the first is a refusal: checks are made in this order
 abbrev pub then : {X : Type 0} → Result Unit Refusal → Result X Refusal → Result X Refusal

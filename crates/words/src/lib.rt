@@ -1,6 +1,6 @@
 // The words that every layer shares: why a call is refused, and the codes of moves.
 ghost use mathlib.Core.Path.{_≡_};
-ghost use Rattle.words.specs.Refusals.{number-of};
+ghost use Rattle.words.specs.Refusals.{number-of, numbered};
 
 // Why a call is refused. Its number is what a caller outside the library sees.
 #[derive(Clone, Copy)]
@@ -23,6 +23,7 @@ impl Refusal {
     // The number that the refusal is returned as.
     pub fn number(self) -> u16
         ensures value { λ r. ⌜ r ≡ number-of self ⌝ }
+        ensures back { λ r. ⌜ numbered r ≡ self ⌝ }
     {
         match self {
             Refusal::NoSuchShuttle => 1,
