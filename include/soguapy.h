@@ -15,7 +15,7 @@
 /* Carries out the edit file and writes its report to the front of the buffer.
  * Returns the report's length; the bytes behind it stay as they were.
  * A refused call returns SOGUAPY_REFUSED plus the refusal's number, and leaves every byte of the buffer as it was.
- * It allocates nothing, keeps nothing between calls, and takes less than 64 KiB of stack.
+ * It allocates nothing and keeps nothing between calls. Its stack was measured at 25 KiB; no proof bounds it.
  * Where a length is 0 the pointer may be null. */
 uint32_t soguapy_report(uint32_t kind, const uint8_t *file, size_t file_len, uint8_t *report, size_t report_len);
 
