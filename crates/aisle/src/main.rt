@@ -1,4 +1,6 @@
 // The program: a script on standard input, an answer on standard output for each of its commands. It also turns scripts into edit files and back.
+#![tactic(auto)]
+
 use board::board::Board;
 use commands::answers::{answer_line, board_line, cell_line, reason, refused_line};
 use commands::codes::{ask_of, codes_of, narrowed};

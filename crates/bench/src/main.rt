@@ -1,6 +1,8 @@
 // The benchmark: one random history, played by boards over every table and by the graph search.
 // `bench KIND SHUTTLES MOVES STEPS` plays one; `bench` alone plays all kinds at many sizes.
 // What was answered and counted goes to standard output, times go to standard error.
+#![tactic(auto)]
+
 mod history;
 mod outcome;
 mod players;

@@ -1,4 +1,6 @@
 // Cases of the station's call, of a run on a small aisle, of single pairs of every kind of table, and of scripts.
+#![tactic(auto)]
+
 #[cfg(test)]
 mod aisle;
 #[cfg(test)]

@@ -1,4 +1,6 @@
 // Long random histories of calls, on boards of every table and every store, compared call by call with the graph search.
+#![tactic(auto)]
+
 mod boards;
 mod plan;
 mod side;

@@ -1,4 +1,6 @@
 // Running orders over any table: list one, push a move to the front of one, and test a list.
+#![tactic(auto)]
+
 ghost use Rattle.running.specs.Calls.{ListedSo, PushedSo, TestsSo};
 
 use crate::filling::{list_moves, push_move};

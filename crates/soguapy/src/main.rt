@@ -1,4 +1,6 @@
 // The program: an edit file on standard input, its report on standard output, or `refused` and the refusal's number.
+#![tactic(auto)]
+
 use station::station::soguapy_report;
 use std::io::{Read, Write};
 

@@ -1,4 +1,6 @@
 // The planning station: an edit file goes in, a report comes out.
+#![tactic(auto)]
+
 pub mod edit;
 mod lines;
 pub mod station;

@@ -1,4 +1,6 @@
 // The wait store: which waits are held. A trait says by its meaning what a store is; the loose list is one.
+#![tactic(auto)]
+
 pub mod loose;
 pub mod store;
 pub mod wait;

@@ -1,4 +1,6 @@
 // The words that every layer shares: why a call is refused, and the codes of moves.
+#![tactic(auto)]
+
 ghost use Rattle.std.specs.Prelude.{◌≡◌};
 ghost use Rattle.words.specs.Refusals.{number_of, numbered};
 

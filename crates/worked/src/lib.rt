@@ -1,4 +1,6 @@
 // Worked cases: small boards and tables, and what their definitions say is answered there. One theorem, in the contract of one function.
+#![tactic(auto)]
+
 ghost use Rattle.std.specs.Prelude.{◌≡◌};
 ghost use Rattle.worked.specs.Cases.{CasesStand, WorkedCases};
 
