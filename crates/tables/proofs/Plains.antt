@@ -91,8 +91,14 @@ sound_of x = record { small = x.small; within = x.within; whole = x.whole; tidy 
 
 -- the same, as it is owed after a change
 pub owed : {k n u m : ℕ} {cs : List ℕ} → Sound k n u m cs →
-    Small k n × ((u ≤ length cs) × ((1 < k → u ≡ k * k * n) × (((p : ℕ) → p < u → tidy_at k n p (get_or cs p 0) ≡ true) × ((m ≡ filled_of k n (plain_cell k n cs)) × Unit {0}))))
-owed h = (h.small, (h.within, (h.whole, (h.tidy, (h.counted, tt)))))
+    record {
+      small : Small k n;
+      within : u ≤ length cs;
+      whole : 1 < k → u ≡ k * k * n;
+      tidy : (p : ℕ) → p < u → tidy_at k n p (get_or cs p 0) ≡ true;
+      counted : m ≡ filled_of k n (plain_cell k n cs);
+    }
+owed h = record { small = h.small; within = h.within; whole = h.whole; tidy = h.tidy; counted = h.counted }
 
 module _ {k n u m : ℕ} {cs : List ℕ} (sound : Sound k n u m cs) where
   -- the count stays far below what a 32-bit number can tell

@@ -5,7 +5,7 @@ use Rattle.tables.proofs.Extremes.{last_more}
 use Rattle.tables.proofs.plain.PlainTable.last.Goals as goal
 
 pub at-requires : goal.at-requires
-at-requires c = sym (allowed_at _ _ _ _ _ _ (sym c.in-ok-check-cell.ensures) (omega arith))
+at-requires c = sym (allowed_at _ _ _ _ _ _ (sym c.in_ok-check_cell.ensures) (omega arith))
 
 pub loop-p-preserved : goal.loop-p-preserved
 loop-p-preserved c =

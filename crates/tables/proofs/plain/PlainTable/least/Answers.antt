@@ -9,7 +9,7 @@ pub loop-p-init : goal.loop-p-init
 loop-p-init c = sym (least_none _ c.args.i _ (omega arith))
 
 pub at-requires : goal.at-requires
-at-requires c = sym (allowed_at _ _ _ _ _ _ (sym c.in-ok-check-cell.ensures) (omega arith))
+at-requires c = sym (allowed_at _ _ _ _ _ _ (sym c.in_ok-check_cell.ensures) (omega arith))
 
 pub loop-p-preserved : goal.loop-p-preserved
 loop-p-preserved c =
@@ -19,7 +19,7 @@ loop-p-preserved c =
 
 pub returns : goal.returns
 returns c =
-    let ok = c.in-ok-check-cell.ensures in
+    let ok = c.in_ok-check_cell.ensures in
     let h = inside_from _ _ _ _ _ (sym ok) in
     let end : c.loop-p.p ≡ c.args.self.now.lent.moves = omega (arith, c.loop-p.auto.p-end (omega arith)) in
     grind arith

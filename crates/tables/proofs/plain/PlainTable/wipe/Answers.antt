@@ -1,8 +1,8 @@
 use Rattle.tables.proofs.Plains.{owed, wiped_sound, wiped_means}
 use Rattle.tables.proofs.plain.PlainTable.wipe.Goals as goal
 
-pub invariant-of-self : goal.invariant-of-self
-invariant-of-self c =
+pub invariant_of-self : goal.invariant_of-self
+invariant_of-self c =
     let t = c.args.self.now in
     let h = c.blank.ensures in
     simp (h.same.0, h.same.1, h.same.2, h.filled, h.numbers) (owed (wiped_sound _ _ _ t.lent.cells.now t.small t.within t.whole))
