@@ -71,8 +71,16 @@ sound_of x = record { small = x.small; wide = x.wide; within = x.within; some = 
 
 -- the same, as it is owed after a change
 pub owed : {k n p u m : ℕ} {cs : List ℕ} → Sound k n p u m cs →
-    Small k n × ((p ≡ leaves_of n) × ((u ≤ length cs) × ((1 < k → 0 < u) × ((0 < u → u ≡ k * k * (2 * p)) × (((q : ℕ) → q * (2 * p) < u → tree_sound (places k n q) p (stretch (2 * p) cs q) ≡ true) × ((m ≡ filled_of k n (full_cell k n p cs)) × Unit {0}))))))
-owed h = (h.small, (h.wide, (h.within, (h.some, (h.whole, (h.trees, (h.counted, tt)))))))
+    record {
+      small : Small k n;
+      wide : p ≡ leaves_of n;
+      within : u ≤ length cs;
+      some : 1 < k → 0 < u;
+      whole : 0 < u → u ≡ k * k * (2 * p);
+      trees : (q : ℕ) → q * (2 * p) < u → tree_sound (places k n q) p (stretch (2 * p) cs q) ≡ true;
+      counted : m ≡ filled_of k n (full_cell k n p cs);
+    }
+owed h = record { small = h.small; wide = h.wide; within = h.within; some = h.some; whole = h.whole; trees = h.trees; counted = h.counted }
 
 fit_encoded : (n i : ℕ) (v : Option ℕ) → i < n → Fit n v → (encoded v ≡ 65535) ⊎ ((i < n) × (encoded v < n))
 fit_encoded n i None l fit = inl refl

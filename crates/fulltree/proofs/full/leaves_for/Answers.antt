@@ -4,5 +4,5 @@ use Rattle.fulltree.proofs.full.leaves_for.Goals as goal
 
 pub returns : goal.returns
 returns c =
-    let h = c.next-power-of-two.ensures in
-    record { is = leaves_is c.args.moves _ h.power h.lower-bound h.upper-bound; few = omega arith }
+    let h = c.next_power_of_two.ensures in
+    record { is = leaves_is c.args.moves _ h.power h.lower_bound h.upper_bound; few = omega arith }

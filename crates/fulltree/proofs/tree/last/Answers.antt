@@ -8,7 +8,7 @@ pub down-init : goal.down-init
 down-init c = down_starts c.args.leaves c.args.row.now c.requires.tree c.args.j c.if-row-j.false
 
 pub down-preserved : goal.down-preserved
-down-preserved c = simp c.way-down-q.ensures (down_turns c.args.leaves c.args.row.now c.requires.tree c.args.j c.down.q c.down-test.true c.down.invariant)
+down-preserved c = simp c.way_down-q.ensures (down_turns c.args.leaves c.args.row.now c.requires.tree c.args.j c.down.q c.down-test.true c.down.invariant)
 
 pub returns : goal.returns
 returns c = down_ends c.args.leaves c.args.row.now c.requires.tree c.args.j c.down.q c.requires.value c.down-test.false c.down.invariant

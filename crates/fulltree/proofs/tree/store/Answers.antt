@@ -12,5 +12,5 @@ pub returns : goal.returns
 unfolding stored
 returns c =
     let top = mended_top c.mend.q c.mend.q c.mend.row (omega arith) in
-    let at = c.leaf-at-q.ensures in
+    let at = c.leaf_at-q.ensures in
     cc

@@ -5,5 +5,5 @@ use Rattle.questions.proofs.asking.find.Goals as goal
 pub search-entry-requires : goal.search-entry-requires
 search-entry-requires g c =
     let law = g.T.Table.lawful c.args.table.now in
-    let on = move_on _ _ c.args.u c.requires.of-move in
+    let on = move_on _ _ c.args.u c.requires.of_move in
     record { few = omega arith; place = omega (arith, on.1); onto = omega arith }

@@ -39,8 +39,8 @@ loop-q-preserved g c =
 pub rounds-init : goal.rounds-init
 rounds-init g c = turning_none c.args.way _ _ (look_under c.args.way _ (g.T.Table.lawful c.args.table.now)) c.args.k c.args.s c.args.first (search rules) c.requires.places
 
-pub overflow-add-rounds : goal.overflow-add-rounds
-overflow-add-rounds g c =
+pub overflow_add-rounds : goal.overflow_add-rounds
+overflow_add-rounds g c =
     let law = g.T.Table.lawful c.args.table.now in
     omega (arith, turning_small c.args.way _ _ c.args.k c.args.s c.rounds.invariant law.moves_few c.requires.places (search rules))
 

@@ -5,7 +5,7 @@ use Rattle.fulltree.proofs.full.FullTreeTable.clear.Goals as goal
 pub write-requires : goal.write-requires
 write-requires c =
     let sound = sound_of c.args.self.now in
-    let ok = c.in-ok-check-cell.ensures in
+    let ok = c.in_ok-check_cell.ensures in
     record {
       few = leaves_few sound;
       inside = write_inside sound _ _ _ ok;
@@ -14,16 +14,16 @@ write-requires c =
       room = filled_few sound;
     }
 
-pub invariant-of-self : goal.invariant-of-self
-invariant-of-self c =
+pub invariant_of-self : goal.invariant_of-self
+invariant_of-self c =
     let h = c.write.ensures in
-    let ok = c.in-ok-check-cell.ensures in
+    let ok = c.in_ok-check_cell.ensures in
     simp (h.same.0, h.same.1, h.same.2, h.same.3, h.numbers) (owed (write_sound (sound_of c.args.self.now) _ _ _ ok None tt _ h.filled))
 
 pub returns : goal.returns
 returns c =
     let h = c.write.ensures in
-    let ok = c.in-ok-check-cell.ensures in
+    let ok = c.in_ok-check_cell.ensures in
     record {
       answer = ok;
       after = simp (h.same.0, h.same.1, h.same.2, h.numbers) (clear_means (sound_of c.args.self.now) _ _ _ ok);

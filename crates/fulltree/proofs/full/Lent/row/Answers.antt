@@ -3,4 +3,4 @@ use Rattle.fulltree.proofs.Stretches.{lent_is}
 use Rattle.fulltree.proofs.full.Lent.row.Goals as goal
 
 pub returns : goal.returns
-returns c = lent_is _ _ _ _ _ c.start-of-a.ensures.at refl
+returns c = lent_is _ _ _ _ _ c.start_of-a.ensures.at refl

@@ -3,17 +3,17 @@ use Rattle.tables.specs.Meaning.{one}
 use Rattle.fulltree.proofs.Stretches.{leaf_number, stored_back}
 use Rattle.fulltree.proofs.full.Lent.write.Goals as goal
 
-pub overflow-sub-self : goal.overflow-sub-self
-overflow-sub-self c =
-    let was = c.count-of-2.ensures ∙ ap one (c.decode-was.ensures ∙ leaf_number _ _ _ _ _ _ c.start-of-a.ensures.at c.leaf-at.ensures c.requires.place) in
+pub overflow_sub-self : goal.overflow_sub-self
+overflow_sub-self c =
+    let was = c.count_of-2.ensures ∙ ap one (c.decode-was.ensures ∙ leaf_number _ _ _ _ _ _ c.start_of-a.ensures.at c.leaf_at.ensures c.requires.place) in
     omega (arith, c.requires.counted)
 
 pub returns : goal.returns
 returns c =
     let lent = c.args.self.now in
-    let was = c.count-of-2.ensures ∙ ap one (c.decode-was.ensures ∙ leaf_number _ _ _ _ _ _ c.start-of-a.ensures.at c.leaf-at.ensures c.requires.place) in
+    let was = c.count_of-2.ensures ∙ ap one (c.decode-was.ensures ∙ leaf_number _ _ _ _ _ _ c.start_of-a.ensures.at c.leaf_at.ensures c.requires.place) in
     record {
       same = (refl, refl, refl, refl);
-      filled = omega (arith, c.requires.counted, c.count-of.ensures);
-      numbers = stored_back lent.shuttles lent.leaves lent.cells.now c.args.s c.args.t c.args.i _ _ _ _ c.start-of-a.ensures.at c.encode.ensures c.store.ensures;
+      filled = omega (arith, c.requires.counted, c.count_of.ensures);
+      numbers = stored_back lent.shuttles lent.leaves lent.cells.now c.args.s c.args.t c.args.i _ _ _ _ c.start_of-a.ensures.at c.encode.ensures c.store.ensures;
     }

@@ -8,22 +8,22 @@ use Rattle.stores.proofs.loose.LooseStore.add.Goals as goal
 pub push-requires : goal.push-requires
 push-requires c =
     let s = c.args.self.now.lent in
-    add_fits (loose_holding s.records.now s.count) _ _ c.in-ok-check-add.ensures
+    add_fits (loose_holding s.records.now s.count) _ _ c.in_ok-check_add.ensures
 
-pub invariant-of-self : goal.invariant-of-self
-invariant-of-self c =
+pub invariant_of-self : goal.invariant_of-self
+invariant_of-self c =
     let s = c.args.self.now in
     let h = loose_holding s.lent.records.now s.lent.count in
-    let done = c.in-ok-check-add.ensures in
+    let done = c.in_ok-check_add.ensures in
     let fits = add_fits h _ _ done in
     simp (c.push.ensures.count, c.push.ensures.records, length-set)
-    (omega (arith, fits), (added_single s.lent.records.now s.lent.count _ _ (omega (arith, fits)) s.once (add_new h _ _ done), tt))
+    (record { few = omega (arith, fits); once = added_single s.lent.records.now s.lent.count _ _ (omega (arith, fits)) s.once (add_new h _ _ done) })
 
 pub returns : goal.returns
 returns c =
     let s = c.args.self.now in
     let h = loose_holding s.lent.records.now s.lent.count in
-    let done = c.in-ok-check-add.ensures in
+    let done = c.in_ok-check_add.ensures in
     record {
       answer = done;
       after =

@@ -8,7 +8,7 @@ use Rattle.stores.proofs.loose.LooseStore.earliest.Goals as goal
 pub loop-i-preserved : goal.loop-i-preserved
 loop-i-preserved c =
     simp c.sooner-best.ensures
-    (earliest_more c.args.self.now.lent.records.now (wait_of 0 0) c.loop-i.i _ _ c.loop-i.best c.place-on.result (omega arith) c.loop-i.invariant c.place-on.ensures)
+    (earliest_more c.args.self.now.lent.records.now (wait_of 0 0) c.loop-i.i _ _ c.loop-i.best c.place_on.result (omega arith) c.loop-i.invariant c.place_on.ensures)
 
 pub returns : goal.returns
 returns c =

@@ -6,14 +6,14 @@ use Rattle.stores.proofs.Outcomes.{remove_passed, remove_done}
 use Rattle.stores.proofs.Records.{removed_single, removed_holding}
 use Rattle.stores.proofs.loose.LooseStore.remove.Goals as goal
 
-pub invariant-of-self : goal.invariant-of-self
-invariant-of-self c =
+pub invariant_of-self : goal.invariant_of-self
+invariant_of-self c =
     let s = c.args.self.now in
     let found = c.in-Some.ensures in
-    simp (c.pull.ensures.count, c.pull.ensures.records, length-set) (
-      omega (arith, s.few),
-      (removed_single s.lent.records.now (wait_of 0 0) s.lent.count (s.lent.count - 1) _ (omega (arith, found.1)) (omega (arith, s.few)) found.1 s.once, tt),
-    )
+    simp (c.pull.ensures.count, c.pull.ensures.records, length-set) (record {
+      few = omega (arith, s.few);
+      once = removed_single s.lent.records.now (wait_of 0 0) s.lent.count (s.lent.count - 1) _ (omega (arith, found.1)) (omega (arith, s.few)) found.1 s.once;
+    })
 
 pub returns-in-Some : goal.returns-in-Some
 returns-in-Some c =
