@@ -1,7 +1,7 @@
 use Rattle.std.proofs.Common.{◌≡◌, ◌*◌, arith}
 use Rattle.running.proofs.Fills.{turn_more, turn_never, filled_end}
 use Rattle.running.proofs.filling.fill.Goals as goal
-use Rattle.running.proofs.filling.fill.Goals.{in-Some, in-default}
+use Rattle.running.proofs.filling.fill.Goals.{in-Some, in_default}
 
 pub loop-p-preserved : goal.loop-p-preserved
 loop-p-preserved g c =
@@ -12,9 +12,9 @@ loop-p-preserved g c =
       | in-Some w ↦
           turn_more m law.shuttles_few law.moves_few c.args.bounds.now c.args.out.now all c.loop-p.done c.loop-p.out c.loop-p.p (omega arith) (omega arith) c.loop-p.invariant
           w.in-Some.t w.in-Some.ensures c.match-next.done c.match-next.out w.done-is w.out-is
-      | in-default w ↦
+      | in_default w ↦
           turn_never m law.shuttles_few law.moves_few c.args.bounds.now c.args.out.now all c.loop-p.done c.loop-p.out c.loop-p.p (omega arith) (omega arith) c.loop-p.invariant
-          (cc) w.in-default.ensures c.match-next.done c.match-next.out w.done-is w.out-is
+          (cc) w.in_default.ensures c.match-next.done c.match-next.out w.done-is w.out-is
     ]
 
 pub returns : goal.returns

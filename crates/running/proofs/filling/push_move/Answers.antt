@@ -4,5 +4,5 @@ use Rattle.running.proofs.filling.push_move.Goals as goal
 pub returns : goal.returns
 returns g c =
     let told = c.sizes-sizes.ensures in
-    pushed_of _ c.args.v _ _ told.shuttles told.moves c.in-ok-check-move.ensures _ c.args.out.now c.fill.new.out c.fill.result
-    c.bounds-of-bounds.ensures c.fill.ensures
+    pushed_of _ c.args.v _ _ told.shuttles told.moves c.in_ok-check_move.ensures _ c.args.out.now c.fill.new.out c.fill.result
+    c.bounds_of-bounds.ensures c.fill.ensures

@@ -9,6 +9,6 @@ returns c =
     record {
       count = refl;
       records =
-          opened_put s.records.now s.count c.args.place (wait_of c.args.first c.args.second) c.requires.within (omega (arith, c.requires.free)) c.open-gap.new.records (omega arith)
-          c.open-gap.ensures;
+          opened_put s.records.now s.count c.args.place (wait_of c.args.first c.args.second) c.requires.within (omega (arith, c.requires.free)) c.open_gap.new.records (omega arith)
+          c.open_gap.ensures;
     }

@@ -7,5 +7,5 @@ returns c =
     let s = c.args.self.now in
     record {
       count = refl;
-      records = closed_taken s.records.now s.count c.args.place c.requires.within c.requires.few c.close-gap.new.records (omega arith) c.close-gap.ensures;
+      records = closed_taken s.records.now s.count c.args.place c.requires.within c.requires.few c.close_gap.new.records (omega arith) c.close_gap.ensures;
     }

@@ -9,5 +9,5 @@ pub returns : goal.returns
 returns c =
     let s = c.args.self.now in
     subst (Earliest (loose_holding s.lent.records.now s.lent.count) c.args.first c.args.t)
-    (sym (c.place-from.ensures ∙ ap (λ p. led_from s.lent.records.now s.lent.count p c.args.first c.args.t) c.seek.ensures))
+    (sym (c.place_from.ensures ∙ ap (λ p. led_from s.lent.records.now s.lent.count p c.args.first c.args.t) c.seek.ensures))
     (earliest_from s.lent.records.now s.lent.count c.args.first c.args.t (omega (arith, s.few)) s.rising (omega arith))

@@ -7,23 +7,23 @@ use Rattle.ordered.proofs.Shifts.{length_taken_out}
 use Rattle.ordered.proofs.Changes.{removed_rises, removed_holding}
 use Rattle.ordered.proofs.ordered.OrderedStore.remove.Goals as goal
 
-pub take-out-requires : goal.take-out-requires
-take-out-requires c =
+pub take_out-requires : goal.take_out-requires
+take_out-requires c =
     let s = c.args.self.now in
     record {
       within = omega (arith, held_below s.lent.records.now s.lent.count c.args.first c.args.second (omega (arith, s.few)) s.rising c.if-holds.ensures);
       few = omega (arith, s.few);
     }
 
-pub invariant-of-self : goal.invariant-of-self
-invariant-of-self c =
+pub invariant_of-self : goal.invariant_of-self
+invariant_of-self c =
     let s = c.args.self.now in
     let below = held_below s.lent.records.now s.lent.count c.args.first c.args.second (omega (arith, s.few)) s.rising c.if-holds.ensures in
-    let taken = c.take-out.ensures.records ∙ ap (taken_out s.lent.records.now s.lent.count) c.seek-place.ensures in
-    simp (c.take-out.ensures.count, taken) (
-      omega (arith, s.few, length_taken_out s.lent.records.now s.lent.count _ below (omega (arith, s.few))),
-      (removed_rises s.lent.records.now s.lent.count _ below (omega (arith, s.few)) s.rising, tt),
-    )
+    let taken = c.take_out.ensures.records ∙ ap (taken_out s.lent.records.now s.lent.count) c.seek-place.ensures in
+    simp (c.take_out.ensures.count, taken) (record {
+      few = omega (arith, s.few, length_taken_out s.lent.records.now s.lent.count _ below (omega (arith, s.few)));
+      rising = removed_rises s.lent.records.now s.lent.count _ below (omega (arith, s.few)) s.rising;
+    })
 
 pub returns-then-holds : goal.returns-then-holds
 returns-then-holds c =
@@ -32,11 +32,11 @@ returns-then-holds c =
     let held = c.if-holds.ensures in
     let below = held_below s.lent.records.now s.lent.count c.args.first c.args.second (omega (arith, s.few)) s.rising held in
     let there = held_there s.lent.records.now s.lent.count c.args.first c.args.second (omega (arith, s.few)) s.rising held in
-    let taken = c.take-out.ensures.records ∙ ap (taken_out s.lent.records.now s.lent.count) c.seek-place.ensures in
+    let taken = c.take_out.ensures.records ∙ ap (taken_out s.lent.records.now s.lent.count) c.seek-place.ensures in
     record {
       answer = remove_passed h _ _ (sym held);
       after =
-          simp (c.take-out.ensures.count, taken)
+          simp (c.take_out.ensures.count, taken)
           (removed_holding s.lent.records.now s.lent.count _ below (omega (arith, s.few)) s.rising _ _ there ∙ remove_done h _ _ (sym held));
       refused = tt;
       records = taken;
