@@ -9,5 +9,5 @@ returns g c =
     let k = c.step-answer.auto.slice in
     record {
       ask = refl;
-      step = step_same c.as-mut-slice.ensures.value (sym (with_items_is v c.step-answer.new.slice (k ∙ c.as-mut-slice.ensures.len))) c.step-answer.ensures;
+      step = step_same c.as_mut_slice.ensures.value (sym (with_items_is v c.step-answer.new.slice (k ∙ c.as_mut_slice.ensures.len))) c.step-answer.ensures;
     }

@@ -9,8 +9,8 @@ loop-call-init g c = (λ b st. going_none b c.args.calls.now _ _ st, refl)
 
 pub loop-call-preserved : goal.loop-call-preserved
 loop-call-preserved g c = (
-  λ b st. going_more b c.args.calls.now c.loop-call.calls c.loop-call.call-index c.call-item.result c.make-call.new.call (omega arith) (omega arith) c.loop-call.invariant.1 (c.loop-call.invariant.0 b st) c.make-call.ensures,
-  rest_more (limits (g.T.Table.meaning c.args.table) (g.S.Store.holding c.args.store)) c.args.calls.now c.loop-call.calls c.loop-call.call-index c.call-item.result c.make-call.new.call (omega arith) (omega arith) c.loop-call.invariant.1,
+  λ b st. going_more b c.args.calls.now c.loop-call.calls c.loop-call.call-index c.call-item.result c.make_call.new.call (omega arith) (omega arith) c.loop-call.invariant.1 (c.loop-call.invariant.0 b st) c.make_call.ensures,
+  rest_more (limits (g.T.Table.meaning c.args.table) (g.S.Store.holding c.args.store)) c.args.calls.now c.loop-call.calls c.loop-call.call-index c.call-item.result c.make_call.new.call (omega arith) (omega arith) c.loop-call.invariant.1,
 )
 
 pub returns : goal.returns

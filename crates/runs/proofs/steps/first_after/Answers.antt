@@ -2,4 +2,4 @@ use Rattle.runs.proofs.Stepping.{step_first}
 use Rattle.runs.proofs.steps.first_after.Goals as goal
 
 pub returns : goal.returns
-returns g c = step_first _ _ _ c.args.u c.args.t c.first-after-found.result.0 c.first-after-found.result.1 c.of-found.ensures c.first-after-found.ensures
+returns g c = step_first _ _ _ c.args.u c.args.t c.first_after-found.result.0 c.first_after-found.result.1 c.of_found.ensures c.first_after-found.ensures

@@ -8,10 +8,10 @@ use Rattle.board.specs.Steps.{ahead}
 use Rattle.board.proofs.Puts.{waiting_allowed, add_passes, placing_done}
 use Rattle.board.proofs.board.Board.write_wait.Goals as goal
 
-pub put-earlier-requires : goal.put-earlier-requires
-put-earlier-requires g c =
+pub put_earlier-requires : goal.put_earlier-requires
+put_earlier-requires g c =
     let m : Meaning = g.T.Table.meaning c.args.self.now.table in
-    let a = then_first (ahead m (g.S.Store.holding c.args.self.now.store) c.args.u c.args.v) _ tt c.in-ok-judge.ensures.2 in
+    let a = then_first (ahead m (g.S.Store.holding c.args.self.now.store) c.args.u c.args.v) _ tt c.in_ok-judge.ensures.2 in
     let w = wait_waiting m.shuttles m.moves c.args.u c.args.v (then_first (wait_check m.shuttles m.moves c.args.u c.args.v) _ tt a) in
     record { cell = waiting_allowed m.shuttles m.moves c.args.u c.args.v w; value = omega (arith, w.to) }
 
@@ -19,8 +19,8 @@ pub returns : goal.returns
 returns g c =
     let m : Meaning = g.T.Table.meaning c.args.self.now.table in
     let h : Holding = g.S.Store.holding c.args.self.now.store in
-    let j = c.in-ok-judge.ensures in
-    let p = c.in-ok-put-earlier.ensures in
+    let j = c.in_ok-judge.ensures in
+    let p = c.in_ok-put_earlier.ensures in
     let a = add_passes m h c.args.u c.args.v j.0 j.1 j.2 in
     record {
       does = placing_done m h c.args.u c.args.v j.0 j.1 j.2 _ p.answer p.after c.add.result c.add.ensures.answer _ c.add.ensures.after;
