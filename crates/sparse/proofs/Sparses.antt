@@ -30,9 +30,22 @@ sound_of x = record { small = x.small; few = x.few; good = good_from _ _ _ x.len
 
 -- the same, as it is owed after a change
 pub owed : {k n m : ℕ} {head : Option ℕ} {roots : List (Option ℕ)} {xs : List Record} → Sound k n m head roots xs →
-    Small k n × ((length xs ≤ 65535) × (((g : ℕ) → g < trees → tree_formed n roots xs g ≡ true) × ((m ≤ length xs) × ((chained (length xs - m) xs head ≡ true) × ((m ≡ filled_of k n (sparse_cell k n roots xs)) × Unit {0})))))
-owed {k} {n} {m} {head} {roots} {xs} h =
-    (h.small, (h.few, (trees_tested n m head roots xs h.good, (spare_few n m head roots xs h.good, (spare_tested n m head roots xs h.good, (h.counted, tt))))))
+    record {
+      small : Small k n;
+      few : length xs ≤ 65535;
+      formed : (g : ℕ) → g < trees → tree_formed n roots xs g ≡ true;
+      within : m ≤ length xs;
+      spare : chained (length xs - m) xs head ≡ true;
+      counted : m ≡ filled_of k n (sparse_cell k n roots xs);
+    }
+owed {k} {n} {m} {head} {roots} {xs} h = record {
+  small = h.small;
+  few = h.few;
+  formed = trees_tested n m head roots xs h.good;
+  within = spare_few n m head roots xs h.good;
+  spare = spare_tested n m head roots xs h.good;
+  counted = h.counted;
+}
 
 pub number_few : (k n s t i : ℕ) → Small k n → passed ≡ allowed k n s t i → tree_number s t < trees
 number_few k n s t i small ok = number_below k n s t i small (sym ok)

@@ -5,4 +5,4 @@ use Rattle.station.proofs.lines.put_line.Goals as goal
 
 pub returns : goal.returns
 returns c =
-    pours_more (pours_more (pours_more c.put-number-first.ensures.written (pours_same (ap next_number (sym c.returned.ensures)) c.put-next-second.ensures.written)) c.put-finding-third.ensures.written) c.put-byte.ensures.written
+    pours_more (pours_more (pours_more c.put_number-first.ensures.written (pours_same (ap next_number (sym c.returned.ensures)) c.put_next-second.ensures.written)) c.put_finding-third.ensures.written) c.put_byte.ensures.written

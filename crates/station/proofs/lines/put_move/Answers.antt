@@ -5,6 +5,6 @@ use Rattle.station.proofs.lines.put_move.Goals as goal
 
 pub returns-in-Some : goal.returns-in-Some
 returns-in-Some c = record {
-  written = pours_same (ap move_text c.in-Some.is) (pours_more (pours_more c.put-number-dot.ensures.written c.put-byte-place.ensures.written) c.put-number.ensures.written);
-  short = omega (arith, c.put-number-dot.ensures.short, c.put-byte-place.ensures.short, c.put-number.ensures.short);
+  written = pours_same (ap move_text c.in-Some.is) (pours_more (pours_more c.put_number-dot.ensures.written c.put_byte-place.ensures.written) c.put_number.ensures.written);
+  short = omega (arith, c.put_number-dot.ensures.short, c.put_byte-place.ensures.short, c.put_number.ensures.short);
 }

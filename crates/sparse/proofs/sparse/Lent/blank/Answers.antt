@@ -5,6 +5,6 @@ use Rattle.sparse.proofs.sparse.Lent.blank.Goals as goal
 pub returns : goal.returns
 returns c = record {
   same = (refl, refl, c.release-self.auto.records, refl);
-  good = empty_good _ _ _ _ c.no-roots-self.ensures c.release-self.ensures;
-  none = empty_cells _ _ _ c.no-roots-self.ensures;
+  good = empty_good _ _ _ _ c.no_roots-self.ensures c.release-self.ensures;
+  none = empty_cells _ _ _ c.no_roots-self.ensures;
 }

@@ -5,6 +5,6 @@ use Rattle.sparse.proofs.sparse.Lent.empty.Goals as goal
 pub returns : goal.returns
 returns c = record {
   sized = (refl, refl, c.release-head.auto.records, refl);
-  good = empty_good _ _ _ _ c.no-roots-roots.ensures c.release-head.ensures;
-  none = empty_cells _ _ _ c.no-roots-roots.ensures;
+  good = empty_good _ _ _ _ c.no_roots-roots.ensures c.release-head.ensures;
+  none = empty_cells _ _ _ c.no_roots-roots.ensures;
 }

@@ -3,19 +3,19 @@ use Rattle.tables.specs.Meaning.{one}
 use Rattle.sparse.proofs.Sparses.{sound_of, below_sixteen, number_lt, owed, some_filled, changed_sound, clear_means, nothing_changed}
 use Rattle.sparse.proofs.sparse.SparseTreeTable.clear.Goals as goal
 
-pub tree-of-tree-requires : goal.tree-of-tree-requires
-tree-of-tree-requires c = below_sixteen _ _ _ _ _ c.args.self.now.small c.in-ok-check-cell.ensures
+pub tree_of-tree-requires : goal.tree_of-tree-requires
+tree_of-tree-requires c = below_sixteen _ _ _ _ _ c.args.self.now.small c.in_ok-check_cell.ensures
 
 pub cell-requires : goal.cell-requires
 cell-requires c =
     let sound = sound_of c.args.self.now in
-    record { small = sound.small.3; inside = number_lt sound _ _ _ c.in-ok-check-cell.ensures _ c.tree-of-tree.ensures; good = sound.good }
+    record { small = sound.small.3; inside = number_lt sound _ _ _ c.in_ok-check_cell.ensures _ c.tree_of-tree.ensures; good = sound.good }
 
-pub empty-cell-requires : goal.empty-cell-requires
-empty-cell-requires c =
+pub empty_cell-requires : goal.empty_cell-requires
+empty_cell-requires c =
     let sound = sound_of c.args.self.now in
-    let ok = c.in-ok-check-cell.ensures in
-    let is = c.tree-of-tree.ensures in
+    let ok = c.in_ok-check_cell.ensures in
+    let is = c.tree_of-tree.ensures in
     record {
       small = sound.small.3;
       inside = number_lt sound _ _ _ ok _ is;
@@ -24,25 +24,25 @@ empty-cell-requires c =
       some = some_filled sound _ _ _ ok _ is _ c.in-Some.ensures;
     }
 
-pub invariant-of-self : goal.invariant-of-self
-invariant-of-self c =
-    let h = c.empty-cell.ensures in
-    owed (changed_sound (sound_of c.args.self.now) _ _ _ c.in-ok-check-cell.ensures _ c.tree-of-tree.ensures None _ _ h.cells _ _ h.same.0 h.same.1 h.same.2 _ _ h.good (omega (arith, h.filled, ap one c.in-Some.ensures)))
+pub invariant_of-self : goal.invariant_of-self
+invariant_of-self c =
+    let h = c.empty_cell.ensures in
+    owed (changed_sound (sound_of c.args.self.now) _ _ _ c.in_ok-check_cell.ensures _ c.tree_of-tree.ensures None _ _ h.cells _ _ h.same.0 h.same.1 h.same.2 _ _ h.good (omega (arith, h.filled, ap one c.in-Some.ensures)))
 
 pub returns-in-Some : goal.returns-in-Some
 returns-in-Some c =
-    let h = c.empty-cell.ensures in
+    let h = c.empty_cell.ensures in
     record {
-      answer = c.in-ok-check-cell.ensures;
-      after = clear_means (sound_of c.args.self.now) _ _ _ c.in-ok-check-cell.ensures _ c.tree-of-tree.ensures _ _ _ _ h.same.0 h.same.1 h.same.2 h.cells;
+      answer = c.in_ok-check_cell.ensures;
+      after = clear_means (sound_of c.args.self.now) _ _ _ c.in_ok-check_cell.ensures _ c.tree_of-tree.ensures _ _ _ _ h.same.0 h.same.1 h.same.2 h.cells;
       refused = tt;
     }
 
 pub returns-in-None : goal.returns-in-None
 returns-in-None c =
     let sound = sound_of c.args.self.now in
-    let ok = c.in-ok-check-cell.ensures in
-    let is = c.tree-of-tree.ensures in
+    let ok = c.in_ok-check_cell.ensures in
+    let is = c.tree_of-tree.ensures in
     record {
       answer = ok;
       after = clear_means sound _ _ _ ok _ is _ _ _ _ refl refl refl (nothing_changed sound _ _ _ ok _ is c.in-None.ensures);

@@ -6,25 +6,25 @@ use Rattle.tables.proofs.Allowed.{value_from}
 use Rattle.sparse.proofs.Sparses.{sound_of, below_sixteen, number_lt, owed, some_filled, changed_sound, refill_answer, fill_answer, full_answer, full_means, put_means}
 use Rattle.sparse.proofs.sparse.SparseTreeTable.put.Goals as goal
 
-pub tree-of-tree-requires : goal.tree-of-tree-requires
-tree-of-tree-requires c = below_sixteen _ _ _ _ _ c.args.self.now.small c.in-ok-check-cell.ensures
+pub tree_of-tree-requires : goal.tree_of-tree-requires
+tree_of-tree-requires c = below_sixteen _ _ _ _ _ c.args.self.now.small c.in_ok-check_cell.ensures
 
 pub cell-requires : goal.cell-requires
 cell-requires c =
     let sound = sound_of c.args.self.now in
-    record { small = sound.small.3; inside = number_lt sound _ _ _ c.in-ok-check-cell.ensures _ c.tree-of-tree.ensures; good = sound.good }
+    record { small = sound.small.3; inside = number_lt sound _ _ _ c.in_ok-check_cell.ensures _ c.tree_of-tree.ensures; good = sound.good }
 
 pub refill-requires : goal.refill-requires
 refill-requires c =
     let sound = sound_of c.args.self.now in
-    let ok = c.in-ok-check-cell.ensures in
-    let is = c.tree-of-tree.ensures in
+    let ok = c.in_ok-check_cell.ensures in
+    let is = c.tree_of-tree.ensures in
     record {
       small = sound.small.3;
       few = sound.few;
       inside = number_lt sound _ _ _ ok _ is;
       place = (inside_from _ _ _ _ _ (sym ok)).place_below;
-      value = value_from _ _ (sym c.in-ok-check-value.ensures);
+      value = value_from _ _ (sym c.in_ok-check_value.ensures);
       good = sound.good;
       held = (c.in-Some.field-0, sym c.in-Some.ensures);
       some = some_filled sound _ _ _ ok _ is _ c.in-Some.ensures;
@@ -33,35 +33,35 @@ refill-requires c =
 pub fill-requires : goal.fill-requires
 fill-requires c =
     let sound = sound_of c.args.self.now in
-    let ok = c.in-ok-check-cell.ensures in
+    let ok = c.in_ok-check_cell.ensures in
     record {
       small = sound.small.3;
       few = sound.few;
-      inside = number_lt sound _ _ _ ok _ c.tree-of-tree.ensures;
+      inside = number_lt sound _ _ _ ok _ c.tree_of-tree.ensures;
       place = (inside_from _ _ _ _ _ (sym ok)).place_below;
-      value = value_from _ _ (sym c.in-ok-check-value.ensures);
+      value = value_from _ _ (sym c.in_ok-check_value.ensures);
       good = sound.good;
       empty = sym c.in-None.ensures;
-      room = leb-false _ _ (sym c.if-is-full.ensures);
+      room = leb-false _ _ (sym c.if-is_full.ensures);
     }
 
-pub invariant-of-self : goal.invariant-of-self
-invariant-of-self c =
+pub invariant_of-self : goal.invariant_of-self
+invariant_of-self c =
     let h = c.refill.ensures in
-    owed (changed_sound (sound_of c.args.self.now) _ _ _ c.in-ok-check-cell.ensures _ c.tree-of-tree.ensures (Some c.args.j) _ _ h.cells _ _ h.same.0 h.same.1 h.same.2 _ _ h.good (omega (arith, h.filled, ap one c.in-Some.ensures)))
+    owed (changed_sound (sound_of c.args.self.now) _ _ _ c.in_ok-check_cell.ensures _ c.tree_of-tree.ensures (Some c.args.j) _ _ h.cells _ _ h.same.0 h.same.1 h.same.2 _ _ h.good (omega (arith, h.filled, ap one c.in-Some.ensures)))
 
-pub invariant-of-self-in-None : goal.invariant-of-self-in-None
-invariant-of-self-in-None c =
+pub invariant_of-self-in-None : goal.invariant_of-self-in-None
+invariant_of-self-in-None c =
     let h = c.fill.ensures in
-    owed (changed_sound (sound_of c.args.self.now) _ _ _ c.in-ok-check-cell.ensures _ c.tree-of-tree.ensures (Some c.args.j) _ _ h.cells _ _ h.same.0 h.same.1 h.same.2 _ _ h.good (omega (arith, h.filled, ap one c.in-None.ensures)))
+    owed (changed_sound (sound_of c.args.self.now) _ _ _ c.in_ok-check_cell.ensures _ c.tree_of-tree.ensures (Some c.args.j) _ _ h.cells _ _ h.same.0 h.same.1 h.same.2 _ _ h.good (omega (arith, h.filled, ap one c.in-None.ensures)))
 
-pub returns-then-is-full : goal.returns-then-is-full
-returns-then-is-full c =
+pub returns-then-is_full : goal.returns-then-is_full
+returns-then-is_full c =
     let sound = sound_of c.args.self.now in
-    let ok = c.in-ok-check-cell.ensures in
-    let is = c.tree-of-tree.ensures in
-    let value = c.in-ok-check-value.ensures in
-    let full = leb-true _ _ (sym c.if-is-full.ensures) in
+    let ok = c.in_ok-check_cell.ensures in
+    let is = c.tree_of-tree.ensures in
+    let value = c.in_ok-check_value.ensures in
+    let full = leb-true _ _ (sym c.if-is_full.ensures) in
     record {
       answer = full_answer sound _ _ _ ok _ is _ value c.in-None.ensures full;
       after = full_means sound _ _ _ ok _ is _ value c.in-None.ensures full;
@@ -71,17 +71,17 @@ returns-then-is-full c =
 pub returns-in-Some : goal.returns-in-Some
 returns-in-Some c =
     let sound = sound_of c.args.self.now in
-    let ok = c.in-ok-check-cell.ensures in
-    let is = c.tree-of-tree.ensures in
+    let ok = c.in_ok-check_cell.ensures in
+    let is = c.tree_of-tree.ensures in
     let h = c.refill.ensures in
-    let done = refill_answer sound _ _ _ ok _ is _ _ c.in-ok-check-value.ensures c.in-Some.ensures in
+    let done = refill_answer sound _ _ _ ok _ is _ _ c.in_ok-check_value.ensures c.in-Some.ensures in
     record { answer = done; after = put_means sound _ _ _ ok _ is _ _ _ _ h.same.0 h.same.1 h.same.2 _ done h.cells; refused = tt }
 
-pub returns-else-is-full : goal.returns-else-is-full
-returns-else-is-full c =
+pub returns-else-is_full : goal.returns-else-is_full
+returns-else-is_full c =
     let sound = sound_of c.args.self.now in
-    let ok = c.in-ok-check-cell.ensures in
-    let is = c.tree-of-tree.ensures in
+    let ok = c.in_ok-check_cell.ensures in
+    let is = c.tree_of-tree.ensures in
     let h = c.fill.ensures in
-    let done = fill_answer sound _ _ _ ok _ is _ c.in-ok-check-value.ensures c.in-None.ensures (leb-false _ _ (sym c.if-is-full.ensures)) in
+    let done = fill_answer sound _ _ _ ok _ is _ c.in_ok-check_value.ensures c.in-None.ensures (leb-false _ _ (sym c.if-is_full.ensures)) in
     record { answer = done; after = put_means sound _ _ _ ok _ is _ _ _ _ h.same.0 h.same.1 h.same.2 _ done h.cells; refused = tt }
