@@ -11,7 +11,7 @@ returns-then-node-j t c g tree s = last_none (kids tree c.in-Some.is c.read-node
 pub returns-in-Some-last : goal.returns-in-Some-last
 returns-in-Some-last t c g tree s =
     let k = kids tree c.in-Some.is c.read-node.ensures s in
-    last_right k c.args.j c.in-Some-last.q c.later-of.result c.later-of.ensures c.if-node-j.false
+    last_right k c.args.j c.in-Some-last.q c.later_of.result c.later_of.ensures c.if-node-j.false
     (c.in-Some-last.ensures g k.r k.right_shows)
 
 pub returns-then-mid-node : goal.returns-then-mid-node
@@ -22,5 +22,5 @@ returns-then-mid-node t c g tree s =
 pub returns-else-mid-node : goal.returns-else-mid-node
 returns-else-mid-node t c g tree s =
     let k = kids tree c.in-Some.is c.read-node.ensures s in
-    last_left k c.args.j c.later-of-in-None-last.result c.last-l.result c.later-of-in-None-last.ensures c.if-node-j.false
+    last_left k c.args.j c.later_of-in-None-last.result c.last-l.result c.later_of-in-None-last.ensures c.if-node-j.false
     (c.in-None-last.ensures g k.r k.right_shows) (c.last-l.ensures g k.l k.left_shows)

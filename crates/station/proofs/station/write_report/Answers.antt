@@ -27,7 +27,7 @@ put_line-at-requires g c =
     let b : Limits = limits (g.T.Table.meaning c.args.table) (g.S.Store.holding c.args.store) in
     let few = (g.T.Table.lawful c.args.table).shuttles_few in
     let start = going_none b c.args.file.now c.args.report.now c.number.result c.number-2.result c.number-steps.result
-    c.number.ensures c.number-2.ensures c.number-steps.ensures c.number.type-inv c.number-2.type-inv c.number-steps.type-inv _ _ _ _ c.make-board.ensures c.put_first_line-at.ensures in
+    c.number.ensures c.number-2.ensures c.number-steps.ensures c.number.type_inv c.number-2.type_inv c.number-steps.type_inv _ _ _ _ c.make-board.ensures c.put_first_line-at.ensures in
     let now-at = c.loop-i.invariant b c.args.report.now few start in
     omega (arith, now-at.room, f.whole, f.few, c.number-steps.ensures)
 
@@ -43,7 +43,7 @@ returns g c =
     let b : Limits = limits (g.T.Table.meaning c.args.table) (g.S.Store.holding c.args.store) in
     let few = (g.T.Table.lawful c.args.table).shuttles_few in
     let start = going_none b c.args.file.now c.args.report.now c.number.result c.number-2.result c.number-steps.result
-    c.number.ensures c.number-2.ensures c.number-steps.ensures c.number.type-inv c.number-2.type-inv c.number-steps.type-inv _ _ _ _ c.make-board.ensures c.put_first_line-at.ensures in
+    c.number.ensures c.number-2.ensures c.number-steps.ensures c.number.type_inv c.number-2.type_inv c.number-steps.type_inv _ _ _ _ c.make-board.ensures c.put_first_line-at.ensures in
     let end = c.loop-i.invariant b c.args.report.now few start in
     record {
       reported = going_ends b c.args.file.now c.args.report.now end few (omega (arith, c.number-steps.ensures)) c.requires.room;

@@ -8,14 +8,14 @@ ten_digits n l = length-decimal-le 10 n (omega arith) (omega arith) (omega arith
 
 pub returns-then-n-lt10 : goal.returns-then-n-lt10
 returns-then-n-lt10 t c = record {
-  written = pours_same (decimal_digit c.args.n c.if-n-lt10.true) c.put-byte.ensures.written;
-  short = omega (arith, c.put-byte.ensures.short);
+  written = pours_same (decimal_digit c.args.n c.if-n-lt10.true) c.put_byte.ensures.written;
+  short = omega (arith, c.put_byte.ensures.short);
 }
 
-pub put-byte-requires-2 : goal.put-byte-requires-2
-put-byte-requires-2 t c = omega (arith, c.put-number-next.ensures.short)
+pub put_byte-requires-2 : goal.put_byte-requires-2
+put_byte-requires-2 t c = omega (arith, c.put_number-next.ensures.short)
 
 pub returns : goal.returns
 returns t c =
-    let w = pours_same (decimal_step c.args.n c.if-n-lt10.false (omega arith)) (pours_more c.put-number-next.ensures.written c.put-byte-2.ensures.written) in
+    let w = pours_same (decimal_step c.args.n c.if-n-lt10.false (omega arith)) (pours_more c.put_number-next.ensures.written c.put_byte-2.ensures.written) in
     record { written = w; short = omega (arith, w.next, ten_digits c.args.n (omega arith)) }
