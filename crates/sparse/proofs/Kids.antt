@@ -5,7 +5,7 @@ use Rattle.sparse.specs.declared.record.Entry.{Entry}
 use Rattle.sparse.specs.declared.record.Node.{Node}
 use Rattle.sparse.specs.declared.record.Record.{Record}
 use Rattle.sparse.specs.declared.record.Record.TheVariants.{Free, Used}
-use Rattle.sparse.specs.Trees.{Tree, leaf, node, root, At, Holds, Own, In, Above, Under, Fits, Shows, Least, Last, later}
+use Rattle.sparse.specs.Trees.{Tree, leaf, node, root, At, Holds, Own, In, Above, Under, Fits, Shows, Least, Last, later, there}
 
 -- the root is in the slice
 pub reads : (g : ℕ) (xs : List Record) (link : Option ℕ) (a lo hi : ℕ) (t : Tree) → link ≡ Some a → Shows g xs link lo hi t → (x : Node) × At xs a (Used x)
@@ -74,3 +74,22 @@ fits_in lo hi (node a y l r) x f (inr (inr h)) =
 
 pub relink : {g : ℕ} {xs : List Record} {link to : Option ℕ} {lo hi : ℕ} {t : Tree} → link ≡ to → Shows g xs link lo hi t → Shows g xs to lo hi t
 relink e s = record { linked = sym e ∙ s.linked; held = s.held; fits = s.fits }
+
+-- going down, the range halves or the link ends: this measure of both falls
+there_le : (o : Option ℕ) → there o ≤ 1
+there_le None = omega arith
+there_le (Some a) = omega arith
+
+pub left_falls : {g : ℕ} {xs : List Record} {a lo hi : ℕ} {x : Node} {t : Tree} → Kids g xs a lo hi x t → 2 * ((lo + hi) / 2 - lo) + there x.left < 2 * (hi - lo) + 1
+left_falls {x = x} k = omega (arith, k.low, k.high, there_le x.left)
+
+right_falls_by : (mid lo hi : ℕ) (e : Entry) (o : Option ℕ) (r : Tree) → mid ≡ (lo + hi) / 2 → lo ≤ e.place → e.place < hi → o ≡ root r → Fits mid hi r → Under e r → 2 * (hi - mid) + there o < 2 * (hi - lo) + 1
+right_falls_by mid lo hi e o leaf is low high linked fits under = let z : there o ≡ 0 = ap there linked in omega arith
+right_falls_by mid lo hi e o (node b y l r) is low high linked fits under =
+    let z : there o ≡ 1 = ap there linked in
+    let apart = under.0.2 in
+    omega (arith, fits.0, fits.1, apart)
+
+pub right_falls : {g : ℕ} {xs : List Record} {a lo hi : ℕ} {x : Node} {t : Tree} → Kids g xs a lo hi x t → 2 * (hi - (lo + hi) / 2) + there x.right < 2 * (hi - lo) + 1
+right_falls {lo = lo} {hi = hi} {x = x} k =
+    right_falls_by ((lo + hi) / 2) lo hi x.entry x.right k.r refl k.low k.high k.right_shows.linked k.right_shows.fits k.right_under

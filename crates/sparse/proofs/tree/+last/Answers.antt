@@ -1,4 +1,6 @@
-use Rattle.sparse.proofs.Kids.{reads, kids}
+use Rattle.std.proofs.Common.{◌≡◌, ap, arith}
+use Rattle.sparse.specs.Trees.{there}
+use Rattle.sparse.proofs.Kids.{reads, kids, left_falls, right_falls}
 use Rattle.sparse.proofs.Finds.{last_none, last_right, last_here, last_left}
 use Rattle.sparse.proofs.tree.+last.Goals as goal
 
@@ -24,3 +26,15 @@ returns-else-mid-node t c g tree s =
     let k = kids tree c.in-Some.is c.read-node.ensures s in
     last_left k c.args.j c.later_of-in-None-last.result c.last-l.result c.later_of-in-None-last.ensures c.if-node-j.false
     (c.in-None-last.ensures g k.r k.right_shows) (c.last-l.ensures g k.l k.left_shows)
+
+pub last-requires : goal.last-requires
+last-requires t c =
+    let k = kids c.requires.stands.1 c.in-Some.is c.read-node.ensures c.requires.stands.2 in
+    let is : there c.args.at ≡ 1 = ap there c.in-Some.is in
+    (omega (arith, c.decreases, right_falls k), (omega (arith, k.low, k.high), (omega (arith, c.requires.small), (c.requires.stands.0, k.r, k.right_shows))))
+
+pub last-l-requires : goal.last-l-requires
+last-l-requires t c =
+    let k = kids c.requires.stands.1 c.in-Some.is c.read-node.ensures c.requires.stands.2 in
+    let is : there c.args.at ≡ 1 = ap there c.in-Some.is in
+    (omega (arith, c.decreases, left_falls k), (omega (arith, k.low, k.high), (omega (arith, c.requires.small), (c.requires.stands.0, k.l, k.left_shows))))
