@@ -75,11 +75,11 @@ fn read_move(word: &[u8]) -> Result<Move, Wrong> {
 }
 
 fn read_table(word: &[u8]) -> Result<TableKind, Wrong> {
-    if word == b"plain" {
+    if word == b"plain".as_slice() {
         Ok(TableKind::Plain)
-    } else if word == b"full" {
+    } else if word == b"full".as_slice() {
         Ok(TableKind::Full)
-    } else if word == b"sparse" {
+    } else if word == b"sparse".as_slice() {
         Ok(TableKind::Sparse)
     } else {
         Err(Wrong::Table)
@@ -87,9 +87,9 @@ fn read_table(word: &[u8]) -> Result<TableKind, Wrong> {
 }
 
 fn read_store(word: &[u8]) -> Result<StoreKind, Wrong> {
-    if word == b"loose" {
+    if word == b"loose".as_slice() {
         Ok(StoreKind::Loose)
-    } else if word == b"ordered" {
+    } else if word == b"ordered".as_slice() {
         Ok(StoreKind::Ordered)
     } else {
         Err(Wrong::Store)
@@ -112,25 +112,25 @@ enum Name {
 }
 
 fn read_name(word: &[u8]) -> Option<Name> {
-    if word == b"board" {
+    if word == b"board".as_slice() {
         Some(Name::Board)
-    } else if word == b"place" {
+    } else if word == b"place".as_slice() {
         Some(Name::Place)
-    } else if word == b"remove" {
+    } else if word == b"remove".as_slice() {
         Some(Name::Remove)
-    } else if word == b"before" {
+    } else if word == b"before".as_slice() {
         Some(Name::Before)
-    } else if word == b"first-after" {
+    } else if word == b"first-after".as_slice() {
         Some(Name::FirstAfter)
-    } else if word == b"last-before" {
+    } else if word == b"last-before".as_slice() {
         Some(Name::LastBefore)
-    } else if word == b"list" {
+    } else if word == b"list".as_slice() {
         Some(Name::List)
-    } else if word == b"push" {
+    } else if word == b"push".as_slice() {
         Some(Name::Push)
-    } else if word == b"test" {
+    } else if word == b"test".as_slice() {
         Some(Name::Test)
-    } else if word == b"cell" {
+    } else if word == b"cell".as_slice() {
         Some(Name::Cell)
     } else {
         None

@@ -5,5 +5,5 @@ use Rattle.commands.proofs.codes.code_of.Goals as goal
 pub returns : goal.returns
 returns c = record {
   value = search rules;
-  alike = λ small short low. c.checked-code.ensures ∙ agreeing c.args.shuttles c.args.moves c.args.it small short low;
+  alike = λ small short low. c.checked_code.ensures ∙ agreeing c.args.shuttles c.args.moves c.args.it small short low;
 }
