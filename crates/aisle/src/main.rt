@@ -337,9 +337,9 @@ enum Mode {
 }
 
 fn mode_of(word: &[u8]) -> Mode {
-    if word == b"--pack" {
+    if word == b"--pack".as_slice() {
         Mode::Pack
-    } else if word == b"--unpack" {
+    } else if word == b"--unpack".as_slice() {
         Mode::Unpack
     } else {
         Mode::Unknown
