@@ -17,6 +17,7 @@ use std::alloc::{AllocError, Global};
 use std::env::FillError;
 use std::io;
 use std::io::{BufRead, BufReader, Read, Stdin, Write};
+use std::process::ExitCode;
 use std::rt::Env;
 use stores::loose::Loose;
 use stores::store::Store;
@@ -385,10 +386,12 @@ fn tell(rt: &HostRuntime, fault: &Fault) -> io::Result<()> {
     }
 }
 
-fn main(rt: HostRuntime) -> Result<(), Fault> {
-    let done = run(&rt);
-    if let Err(fault) = &done {
-        let _ = tell(&rt, fault);
+fn main(rt: HostRuntime) -> ExitCode {
+    match run(&rt) {
+        Ok(()) => ExitCode::SUCCESS,
+        Err(fault) => {
+            let _ = tell(&rt, &fault);
+            ExitCode::FAILURE
+        }
     }
-    done
 }
