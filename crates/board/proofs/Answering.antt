@@ -1,14 +1,13 @@
 -- The questions' answers, where the waits stand.
-use Rattle.std.proofs.Common.{◌≡◌, ℕ, ◌+◌, ◌*◌, ◌/◌, ◌%◌, ◌<◌, ◌≤◌, Bool, true, false, leb, ◌⊎◌, ◌↔◌, Some, None, Ok, Err, Option, Result, sym, refl, ap, ◌∙◌, subst, inl, inr, arith}
+use Rattle.std.proofs.Common.{◌≡◌, ℕ, ◌+◌, ◌*◌, ◌/◌, ◌%◌, ◌<◌, Bool, true, ◌↔◌, Some, None, Ok, Err, Option, Result, sym, refl, ap, ◌∙◌, subst, inl, inr, arith}
 use Rattle.std.proofs.lemmas.Bool.{le-leb, leb-true}
 use Rattle.words.specs.declared.Refusal.{Refusal}
 use Rattle.words.specs.Codes.{move_of}
 use Rattle.order.specs.Lists.{there}
-use Rattle.order.specs.Board.{Move, On, Before}
+use Rattle.order.specs.Board.{On, Before}
 use Rattle.order.specs.Rounds.{Ran, Upto, FirstAfter, LastBefore}
 use Rattle.order.proofs.After.{finds, bounded, tells}
 use Rattle.order.proofs.Before.{finds_back, bounded_back}
-use Rattle.order.proofs.Board.{along}
 use Rattle.order.proofs.Laws.{exact}
 use Rattle.order.proofs.Ways.{no_back, on_before}
 use Rattle.questions.specs.declared.rounds.Way.{Way}

@@ -1,5 +1,5 @@
 -- What each call says of the waits that stand, from what it does with the table and the store.
-use Rattle.std.proofs.Common.{◌≡◌, ℕ, ◌≤◌, Bool, [], Option, Result, sym, ap, subst}
+use Rattle.std.proofs.Common.{◌≡◌, ℕ, ◌≤◌, Bool, [], Option, Result, ap, subst}
 use Rattle.words.specs.declared.Refusal.{Refusal}
 use Rattle.tables.specs.Meaning.{Meaning, Lawful, wiped}
 use Rattle.stores.specs.Holding.{Holding, emptied}
@@ -8,7 +8,7 @@ use Rattle.order.proofs.Rows.{starts}
 use Rattle.questions.specs.declared.rounds.Way.{Way}
 use Rattle.questions.specs.Asking.{Asked, Told}
 use Rattle.board.specs.Steps.{Placing, Removing}
-use Rattle.board.specs.Standing.{Limits, Waits, Stands, limits, meant, listed, PlaceKeeps, RemoveKeeps, FindsSo, TellsSo}
+use Rattle.board.specs.Standing.{Stands, limits, meant, listed, PlaceKeeps, RemoveKeeps, FindsSo, TellsSo}
 use Rattle.board.proofs.Answering.{found, tells_before}
 use Rattle.board.proofs.Placed.{stands_by, placed_says, circled_says, placed_stands}
 use Rattle.board.proofs.Removed.{removed_stands}

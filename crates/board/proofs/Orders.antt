@@ -8,7 +8,7 @@ use Rattle.order.specs.Board.{Move, Running}
 use Rattle.questions.specs.Checks.{move_check}
 use Rattle.running.specs.Orders.{Lists, Pushes}
 use Rattle.running.specs.Calls.{Serves, Fills, ListedSo, PushedSo, TestsSo, PushedBy as PushedOver}
-use Rattle.board.specs.Standing.{Limits, Waits, Sound, Stands, lengths, meant, Listed, PushedBy, Pushed, Tested, ListsAt, PushesAt, TestsAt}
+use Rattle.board.specs.Standing.{Limits, Waits, Sound, lengths, meant, PushedBy, ListsAt, PushesAt, TestsAt}
 use Rattle.board.proofs.Scans.{right_back}
 
 -- what holds of the codes for all waits that the table answers for holds for those that stand

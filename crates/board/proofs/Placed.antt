@@ -1,5 +1,5 @@
 -- A placement, where the waits stand.
-use Rattle.std.proofs.Common.{◌≡◌, ℕ, suc, ◌/◌, ◌%◌, ◌<◌, Bool, true, false, cond, ◌||◌, ltb, ◌⊎◌, ◌↔◌, ◌∷◌, length, Some, None, Ok, Err, Option, Result, sym, refl, ap, ◌∙◌, subst, inl, inr, arith}
+use Rattle.std.proofs.Common.{◌≡◌, ℕ, suc, ◌/◌, ◌%◌, Bool, true, false, ◌||◌, ltb, ◌↔◌, ◌∷◌, length, Some, None, Ok, Err, Option, Result, sym, refl, ap, ◌∙◌, subst, inl, inr, arith}
 use mathlib.Core.Path.{fun_ext}
 use Rattle.words.specs.declared.Refusal.{Refusal}
 use Rattle.words.specs.Refusals.{passed, refused, then, unless, refused_if, if_done}
@@ -13,7 +13,7 @@ use Rattle.order.specs.Board.{Before, Ordered}
 use Rattle.order.specs.Cells.{CellOf}
 use Rattle.order.proofs.Laws.{tested, circles}
 use Rattle.questions.specs.Checks.{wait_check}
-use Rattle.questions.proofs.Inside.{Waiting, wait_waiting, moves_on}
+use Rattle.questions.proofs.Inside.{Waiting, wait_waiting}
 use Rattle.board.specs.Steps.{Closes, judged, earlier_cell}
 use Rattle.board.specs.Standing.{Limits, Waits, Sound, Stands, lengths, meant, listed, holds, cells_of, past, room_for, place_gives, Placed, Circled, placed_waits}
 use Rattle.board.proofs.Holds.{same_waits, holds_in, in_holds}

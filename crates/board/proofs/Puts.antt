@@ -1,11 +1,10 @@
 -- A cell that is made to hold the earlier of two places.
-use Rattle.std.proofs.Common.{◌≡◌, ℕ, ◌/◌, ◌%◌, ◌<◌, min, Bool, Some, None, Ok, Err, Option, Result, sym, refl, ap, ◌∙◌, arith}
+use Rattle.std.proofs.Common.{◌≡◌, ℕ, ◌/◌, ◌%◌, ◌<◌, min, Bool, Some, None, Ok, Option, Result, sym, refl, ap, ◌∙◌, arith}
 use Rattle.words.specs.declared.Refusal.{Refusal}
-use Rattle.words.specs.Refusals.{passed, then, refused_if, if_done}
+use Rattle.words.specs.Refusals.{passed, refused_if, if_done}
 use Rattle.words.proofs.Checks.{then_first, then_second, then_ok}
 use Rattle.tables.specs.Meaning.{Meaning, Lawful, with_cell}
 use Rattle.tables.specs.Answers.{taken, valued, room, allowed, cell_answer, put_answer, put_after}
-use Rattle.tables.specs.Checked.{Inside}
 use Rattle.tables.proofs.Allowed.{allowed_from, valued_from}
 use Rattle.order.specs.Rounds.{sooner}
 use Rattle.stores.specs.Holding.{Holding, not_held, not_full, with_wait, add_answer, add_after}

@@ -1,17 +1,16 @@
 -- A removal, where the waits stand: the cell gets back the earliest of the waits that are left.
-use Rattle.std.proofs.Common.{◌≡◌, ℕ, suc, pred, ◌+◌, ◌*◌, ◌/◌, ◌%◌, ◌<◌, ◌≤◌, Bool, true, false, cond, not, ◌&&◌, ◌⊎◌, ◌↔◌, length, Some, None, Ok, Err, Option, Result, sym, refl, ap, ◌∙◌, subst, inl, inr, ⊎_elim, arith}
+use Rattle.std.proofs.Common.{◌≡◌, ℕ, pred, ◌+◌, ◌*◌, ◌/◌, ◌%◌, ◌<◌, ◌≤◌, Bool, true, false, cond, not, ◌&&◌, ◌⊎◌, length, Some, None, Ok, Err, Option, Result, sym, refl, ap, ◌∙◌, subst, inl, inr, ⊎_elim, arith}
 use mathlib.Core.Path.{fun_ext}
 use Rattle.std.proofs.lemmas.Bool.{cases_Bool, cases_lt}
 use Rattle.words.specs.declared.Refusal.{Refusal}
-use Rattle.words.specs.Refusals.{passed, then, unless, if_done}
+use Rattle.words.specs.Refusals.{passed, if_done}
 use Rattle.words.specs.Codes.{move_of, code_of}
 use Rattle.words.proofs.Checks.{then_first, then_second, then_ok, unless_passed}
-use Rattle.tables.specs.Meaning.{Meaning, Lawful, same_cell, with_cell}
+use Rattle.tables.specs.Meaning.{Meaning, same_cell, with_cell}
 use Rattle.tables.specs.Answers.{room, taken, valued, put_answer}
 use Rattle.tables.proofs.Allowed.{valued_from}
 use Rattle.stores.specs.Holding.{Holding, Earliest, less_wait}
 use Rattle.order.specs.Lists.{In}
-use Rattle.order.specs.Board.{Move}
 use Rattle.order.specs.Rounds.{Table}
 use Rattle.order.specs.Cells.{CellOf}
 use Rattle.order.proofs.Board.{removes}

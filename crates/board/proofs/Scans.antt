@@ -1,13 +1,12 @@
 -- What a board's table answers is right of the waits that stand.
-use Rattle.std.proofs.Common.{◌≡◌, ℕ, ◌<◌, [], ◌∷◌, Ok, Option, sym, ap, subst, arith}
+use Rattle.std.proofs.Common.{ℕ, [], ◌∷◌, Ok, sym, ap, subst, arith}
 use Rattle.words.proofs.Checks.{then_ok}
 use Rattle.tables.specs.Meaning.{least_of, last_of}
 use Rattle.tables.specs.Answers.{allowed}
-use Rattle.tables.specs.Checked.{Inside}
 use Rattle.tables.proofs.Allowed.{allowed_from}
 use Rattle.tables.proofs.Extremes.{least_smallest, last_greatest}
 use Rattle.order.specs.Board.{Short}
-use Rattle.order.specs.Rounds.{Table, Right, RightBack}
+use Rattle.order.specs.Rounds.{Right, RightBack}
 use Rattle.order.specs.Cells.{Keeps, Smallest, Greatest, Scans, ScansBack}
 use Rattle.order.proofs.Cells.{answers, answers_back, placing}
 use Rattle.order.proofs.Ways.{fits}

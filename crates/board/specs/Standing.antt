@@ -6,7 +6,7 @@ use Rattle.words.specs.Codes.{move_of}
 use Rattle.tables.specs.Meaning.{Meaning, filled_of}
 use Rattle.stores.specs.Holding.{Holding}
 use Rattle.order.specs.Lists.{In, Earlier}
-use Rattle.order.specs.Board.{Move, Lengths, Edges, On, Before, Running, Ordered}
+use Rattle.order.specs.Board.{Move, Lengths, Edges, Before, Running, Ordered}
 use Rattle.order.specs.Cells.{CellOf, placed}
 use Rattle.order.specs.Rounds.{Table, FirstAfter, LastBefore, Ran}
 use Rattle.questions.specs.declared.rounds.Way.{Way}

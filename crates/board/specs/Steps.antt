@@ -1,5 +1,5 @@
 -- What each call of a board does with what its table and its store mean.
-use Rattle.std.specs.Prelude.{◌≡◌, ℕ, ◌/◌, ◌%◌, Bool, Some, None, Ok, Err, Option, Result}
+use Rattle.std.specs.Prelude.{◌≡◌, ℕ, ◌/◌, ◌%◌, Bool, Some, None, Ok, Option, Result}
 use Rattle.words.specs.declared.Refusal.{Refusal}
 use Rattle.words.specs.Refusals.{passed, then, refused_if, if_done}
 use Rattle.tables.specs.Meaning.{Meaning, with_cell}

@@ -100,7 +100,7 @@ fn there_and_back(rt: HostRuntime) -> Result<(), Fail> {
     }
     match packing.finish(heap) {
         Ok(file) => {
-            assert!(rt; file.as_slice() == &STEPS);
+            assert!(rt; file.as_slice() == STEPS.as_slice());
             Ok(())
         },
         Err(_) => {

@@ -1,5 +1,5 @@
 -- What the numbers of a full tree mean: the buffer has a stretch of 2 p numbers for each pair of shuttles, a tree over p leaves.
-use Rattle.std.specs.Prelude.{◌≡◌, ℕ, ◌+◌, ◌*◌, ◌/◌, ◌%◌, ◌<◌, cond, List, ◌++◌, take, drop, is_ok, None, Option, Result, ◌==◌, ◌≢◌, nat_le}
+use Rattle.std.specs.Prelude.{ℕ, ◌+◌, ◌*◌, ◌/◌, ◌%◌, ◌<◌, cond, List, ◌++◌, take, drop, is_ok, None, Option, Result, ◌==◌, ◌≢◌, nat_le}
 use Rattle.std.specs.List.{between}
 use Rattle.words.specs.declared.Refusal.{Refusal}
 use Rattle.words.specs.Refusals.{then, unless, if_done}

@@ -1,7 +1,7 @@
 -- What it says that the numbers of a call are taken.
-use Rattle.std.proofs.Common.{◌≡◌, ℕ, ◌/◌, ◌%◌, ◌<◌, eqb, ltb, ap, ◌∙◌}
+use Rattle.std.proofs.Common.{◌≡◌, ℕ, ◌/◌, ◌%◌, ◌<◌, ltb, ap, ◌∙◌}
 use Rattle.std.proofs.lemmas.Bool.{ltb-true, eqb-false}
-use Rattle.words.specs.Refusals.{passed, then, unless, refused_if}
+use Rattle.words.specs.Refusals.{passed, unless}
 use Rattle.words.specs.Codes.{move_of}
 use Rattle.words.proofs.Checks.{then_first, then_second, unless_passed, refused_if_passed}
 use Rattle.order.specs.Board.{On}

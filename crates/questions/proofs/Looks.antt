@@ -1,8 +1,8 @@
 -- What is looked up in a table is a place.
-use Rattle.std.proofs.Common.{◌≡◌, ℕ, ◌<◌, Some, None, Ok, Err, Option, Result, sym, refl, subst}
+use Rattle.std.proofs.Common.{◌≡◌, ℕ, ◌<◌, Some, None, Ok, Err, Option, Result}
 use Rattle.words.specs.declared.Refusal.{Refusal}
 use Rattle.words.specs.Refusals.{then}
-use Rattle.tables.specs.Meaning.{Meaning, Lawful, least_of, last_of}
+use Rattle.tables.specs.Meaning.{Meaning, Lawful}
 use Rattle.tables.specs.Answers.{taken}
 use Rattle.tables.proofs.Extremes.{least_smallest, last_greatest}
 use Rattle.order.specs.Cells.{Smallest, Greatest}

@@ -1,5 +1,5 @@
 -- The loop over rounds: what it keeps, why it ends, and what it ends with.
-use Rattle.std.proofs.Common.{◌≡◌, ℕ, suc, ◌+◌, ◌*◌, ◌<◌, ◌≤◌, ◌⊎◌, length, sym, refl, ap, ◌∙◌, subst, inl, inr, ⊎_elim, add-one, arith}
+use Rattle.std.proofs.Common.{◌≡◌, ℕ, suc, ◌+◌, ◌*◌, ◌<◌, ◌≤◌, length, sym, refl, ap, ◌∙◌, subst, ⊎_elim, add-one, arith}
 use native.Mathlib.Decide.{ℕ_discrete}
 use Rattle.order.specs.Rounds.{Table, Row, swept, rounds, Settled}
 use Rattle.order.proofs.Rounds.{length_swept}

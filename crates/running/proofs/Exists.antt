@@ -1,5 +1,5 @@
 -- There is a list of each rule.
-use Rattle.std.proofs.Common.{◌≡◌, ℕ, zero, suc, ◌+◌, ◌<◌, ◌≤◌, ◌⊎◌, List, [], ◌∷◌, ◌++◌, length, refl, inl, inr, arith, length-append}
+use Rattle.std.proofs.Common.{◌≡◌, ℕ, zero, suc, ◌<◌, ◌≤◌, ◌⊎◌, List, [], ◌∷◌, ◌++◌, length, refl, inl, inr, arith, length-append}
 use mathlib.Core.Logic.Dec
 use native.Mathlib.Decide.{dec_lt}
 use Rattle.order.specs.Lists.{In}

@@ -1,5 +1,5 @@
 -- A table that is never full before the store is: how many cells it can fill is then seen in no answer.
-use Rattle.std.proofs.Common.{◌≡◌, ℕ, suc, ◌+◌, ◌-◌, ◌*◌, ◌/◌, ◌%◌, ◌<◌, ◌≤◌, Bool, true, false, cond, ◌&&◌, eqb, ltb, ◌⊎◌, List, [], ◌∷◌, length, get_or, take, Some, None, Ok, Err, Option, Result, sym, refl, ap, ◌∙◌, inl, inr, ⊎_elim, arith}
+use Rattle.std.proofs.Common.{◌≡◌, ℕ, ◌-◌, ◌*◌, ◌/◌, ◌%◌, ◌<◌, ◌≤◌, Bool, true, false, ◌&&◌, eqb, ltb, ◌⊎◌, List, [], ◌∷◌, length, get_or, take, Some, None, Ok, Err, Option, Result, sym, refl, ap, ◌∙◌, inl, inr, ⊎_elim, arith}
 use Rattle.std.proofs.lemmas.Bool.{lt-ltb, ltb-true, cases_Bool}
 use Rattle.std.proofs.lemmas.Bool.Decides.{nat_tests}
 use Rattle.words.specs.declared.Refusal.{Refusal}
@@ -13,12 +13,12 @@ use Rattle.order.specs.Lists.{In}
 use Rattle.order.specs.Board.{Move}
 use Rattle.order.specs.Rounds.{sooner}
 use Rattle.questions.specs.Checks.{move_check, wait_check}
-use Rattle.questions.proofs.Inside.{Waiting, wait_waiting}
+use Rattle.questions.proofs.Inside.{wait_waiting}
 use Rattle.board.specs.Standing.{Limits, Waits, holds, cells_of, room_for, place_gives, PushedBy}
 use Rattle.runs.specs.declared.calls.Ask.{Ask}
 use Rattle.runs.specs.declared.calls.Ask.TheVariants.{Place, Remove, Before as IsBefore, FirstAfter, LastBefore, List as ListMoves, Push as PushMove, Test as TestOrder}
 use Rattle.runs.specs.declared.calls.Answer.{Answer}
-use Rattle.runs.specs.Law.{Event, Answered, standing, Upright, Law}
+use Rattle.runs.specs.Law.{Event, Answered, standing, Law}
 
 abbrev pub Apart : Waits → Type 0
 Apart W = (u v : Move) → In W (u, v) → u.0 ≡ v.0 → ⊥

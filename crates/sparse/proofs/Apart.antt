@@ -1,12 +1,11 @@
 -- A record belongs to at most one tree and one place of it, since it names its tree and its place.
 -- So what is written at one record leaves the trees that lack it.
-use Rattle.std.proofs.Common.{◌≡◌, ℕ, ◌+◌, ◌/◌, ◌<◌, ◌≤◌, ◌≢◌, ◌⊎◌, List, length, get_or, set, Some, None, Option, sym, refl, ap, ◌∙◌, subst, inl, inr, arith, length-set}
-use Rattle.std.proofs.lemmas.List.{get_or-set_same, get_or-set_other}
-use Rattle.sparse.specs.declared.record.Entry.{Entry}
+use Rattle.std.proofs.Common.{◌≡◌, ℕ, ◌≢◌, List, length, get_or, set, None, Option, sym, refl, ap, ◌∙◌, subst, inl, inr, arith, length-set}
+use Rattle.std.proofs.lemmas.List.{get_or-set_other}
 use Rattle.sparse.specs.declared.record.Node.{Node}
 use Rattle.sparse.specs.declared.record.Record.{Record}
 use Rattle.sparse.specs.declared.record.Record.TheVariants.{Free, Used}
-use Rattle.sparse.specs.Trees.{Tree, leaf, node, root, At, Holds, Own, In, Above, Under, Fits}
+use Rattle.sparse.specs.Trees.{Tree, leaf, node, root, At, Holds, Own, In, Under, Fits}
 use Rattle.sparse.proofs.Kids.{under_in, fits_in}
 
 -- what the record at b holds, where the tree has it

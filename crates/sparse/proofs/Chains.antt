@@ -2,7 +2,7 @@
 use Rattle.std.proofs.Common.{◌≡◌, ℕ, suc, ◌+◌, ◌<◌, ◌≤◌, ◌≢◌, ◌⊎◌, List, [], ◌∷◌, length, get_or, set, Some, None, Option, sym, refl, ap, ◌∙◌, subst, inl, inr, arith, length-set}
 use Rattle.std.proofs.lemmas.List.{get_or-set_same, get_or-set_other}
 use Rattle.sparse.specs.declared.record.Record.{Record}
-use Rattle.sparse.specs.declared.record.Record.TheVariants.{Free, Used}
+use Rattle.sparse.specs.declared.record.Record.TheVariants.{Free}
 use Rattle.sparse.specs.Trees.{At}
 use Rattle.sparse.specs.Form.{Chain}
 

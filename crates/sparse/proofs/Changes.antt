@@ -1,15 +1,15 @@
 -- What the trees of a sparse tree hold, and what a change of one of them leaves of the others.
-use Rattle.std.proofs.Common.{◌≡◌, ℕ, zero, suc, ◌+◌, ◌-◌, ◌/◌, ◌<◌, ◌≤◌, Bool, true, false, cond, ◌&&◌, eqb, ◌≢◌, ◌⊎◌, List, [], ◌∷◌, length, get_or, set, replicate, Some, None, Option, sym, refl, ap, ◌∙◌, subst, inl, inr, ⊎_elim, arith, length-set}
+use Rattle.std.proofs.Common.{◌≡◌, ℕ, zero, suc, ◌+◌, ◌-◌, ◌/◌, ◌<◌, ◌≤◌, cond, eqb, ◌≢◌, ◌⊎◌, List, [], ◌∷◌, length, get_or, set, replicate, Some, None, Option, sym, refl, ap, ◌∙◌, subst, inl, inr, ⊎_elim, arith}
 use Rattle.std.proofs.lemmas.List.{get_or-set_same, get_or-set_other}
 use Rattle.std.proofs.lemmas.Bool.{cases_eq, eq-eqb, ne_eqb}
 use Rattle.order.specs.Cells.{Smallest, Greatest}
 use Rattle.tables.specs.Meaning.{least_of, last_of}
-use Rattle.tables.proofs.Extremes.{least_only, last_only, least_like, last_like}
+use Rattle.tables.proofs.Extremes.{least_only, last_only}
 use Rattle.sparse.specs.declared.record.Entry.{Entry}
 use Rattle.sparse.specs.declared.record.Record.{Record}
-use Rattle.sparse.specs.declared.record.Record.TheVariants.{Free, Used}
-use Rattle.sparse.specs.Trees.{Tree, leaf, node, At, Holds, Own, In, Under, Fits, Shows, Lacks, Found, Least, Last, Added, Removed, Same, Inserted, Cut}
-use Rattle.sparse.specs.Form.{value_in, held_in, tree_from, trees, Chain, Good, Changed}
+use Rattle.sparse.specs.declared.record.Record.TheVariants.{Free}
+use Rattle.sparse.specs.Trees.{Tree, leaf, node, At, Holds, Own, In, Fits, Shows, Lacks, Found, Least, Last, Added, Removed, Same, Inserted, Cut}
+use Rattle.sparse.specs.Form.{value_in, held_in, trees, Chain, Good, Changed}
 use Rattle.sparse.proofs.Kids.{under_in, fits_in, relink}
 use Rattle.sparse.proofs.Apart.{not_free, not_other, holds_same}
 use Rattle.sparse.proofs.Forms.{known, value_found}

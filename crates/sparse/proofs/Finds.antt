@@ -1,12 +1,12 @@
 -- The ways of `least` and `last` over the record that is read.
-use Rattle.std.proofs.Common.{◌≡◌, ℕ, ◌+◌, ◌-◌, ◌*◌, ◌/◌, ◌<◌, ◌≤◌, min, max, cond, ltb, ◌≢◌, ◌⊎◌, List, Some, None, Option, sym, refl, ap, ◌∙◌, subst, subst₂, inl, inr, arith}
+use Rattle.std.proofs.Common.{◌≡◌, ℕ, ◌+◌, ◌/◌, ◌<◌, ◌≤◌, max, cond, ltb, ◌≢◌, ◌⊎◌, List, Some, None, Option, sym, refl, ap, ◌∙◌, subst, subst₂, inl, inr, arith}
 use Rattle.std.proofs.lemmas.Bool.{cases_lt}
 use Rattle.std.proofs.lemmas.Bool.Decides.{nat_tests}
 use Rattle.sparse.specs.declared.record.Entry.{Entry}
 use Rattle.sparse.specs.declared.record.Node.{Node}
 use Rattle.sparse.specs.declared.record.Record.{Record}
 use Rattle.tables.specs.Meaning.{smaller}
-use Rattle.sparse.specs.Trees.{Tree, leaf, node, In, Above, Under, Fits, Least, Last, later, Found}
+use Rattle.sparse.specs.Trees.{Tree, node, In, Under, Least, Last, later, Found}
 use Rattle.sparse.proofs.Kids.{Kids, under_in, fits_in}
 
 -- an entry's place and value, by the entry's equation

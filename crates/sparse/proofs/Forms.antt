@@ -1,13 +1,13 @@
 -- The tests that a sparse tree keeps say what `Good` says.
-use Rattle.std.proofs.Common.{◌≡◌, ℕ, zero, suc, ◌+◌, ◌-◌, ◌/◌, ◌<◌, ◌≤◌, Bool, true, false, cond, ◌&&◌, eqb, ltb, leb, ◌⊎◌, List, [], ◌∷◌, length, get_or, Some, None, Option, sym, refl, ap, ◌∙◌, subst, inl, inr, ⊎_elim, arith}
+use Rattle.std.proofs.Common.{◌≡◌, ℕ, zero, suc, ◌+◌, ◌-◌, ◌/◌, ◌<◌, ◌≤◌, Bool, true, false, cond, eqb, ◌⊎◌, List, [], ◌∷◌, length, get_or, Some, None, Option, sym, refl, ap, ◌∙◌, subst, inl, inr, ⊎_elim, arith}
 use Rattle.std.proofs.lemmas.Bool.{and_parts, and_from, ltb-true, leb-true, eqb-true, lt-ltb, le-leb, eq-eqb, cases_eq, cases_Bool, eqb-false}
 use Rattle.std.proofs.lemmas.Bool.Decides.{nat_tests}
 use Rattle.sparse.specs.declared.record.Entry.{Entry}
 use Rattle.sparse.specs.declared.record.Node.{Node}
 use Rattle.sparse.specs.declared.record.Record.{Record}
 use Rattle.sparse.specs.declared.record.Record.TheVariants.{Free, Used}
-use Rattle.sparse.specs.Trees.{Tree, leaf, node, root, At, Holds, In, Above, Under, Fits, Shows, Lacks, Found}
-use Rattle.sparse.specs.Form.{tree_at, tree_from, first_of, value_in, held_in, is_above, below, formed_at, formed, valued_below, tree_formed, free_then, chained, Chain, trees, Good}
+use Rattle.sparse.specs.Trees.{Tree, leaf, node, root, In, Above, Under, Fits, Shows, Found}
+use Rattle.sparse.specs.Form.{tree_at, tree_from, first_of, value_in, is_above, below, formed_at, formed, valued_below, tree_formed, free_then, chained, Chain, trees, Good}
 use Rattle.sparse.proofs.Kids.{under_in, under_all}
 
 -- an equation that cannot be

@@ -1,13 +1,13 @@
 -- What `insert` leaves, by the way it took.
-use Rattle.std.proofs.Common.{◌≡◌, ℕ, ◌+◌, ◌-◌, ◌*◌, ◌/◌, ◌<◌, ◌≤◌, ◌≢◌, ◌⊎◌, List, length, get_or, set, Some, None, Option, sym, refl, ap, ◌∙◌, subst, subst₂, inl, inr, arith, length-set}
+use Rattle.std.proofs.Common.{◌≡◌, ℕ, ◌+◌, ◌/◌, ◌<◌, ◌≤◌, ◌≢◌, ◌⊎◌, List, length, set, Some, None, Option, sym, refl, ap, ◌∙◌, subst, subst₂, inl, inr, arith, length-set}
 use Rattle.std.proofs.lemmas.List.{get_or-set_same, get_or-set_other}
 use Rattle.sparse.specs.declared.record.Entry.{Entry}
 use Rattle.sparse.specs.declared.record.Node.{Node}
 use Rattle.sparse.specs.declared.record.Record.{Record}
 use Rattle.sparse.specs.declared.record.Record.TheVariants.{Free, Used}
-use Rattle.sparse.specs.Trees.{Tree, leaf, node, root, At, Holds, Own, In, Above, Under, Fits, Shows, Lacks, Added, Same, Inserted}
-use Rattle.sparse.proofs.Kids.{Kids, under_in, under_all, fits_in}
-use Rattle.sparse.proofs.Apart.{own_reads, not_free, not_root, not_both, holds_same, holds_set}
+use Rattle.sparse.specs.Trees.{Tree, leaf, node, root, At, Holds, Own, In, Above, Under, Shows, Lacks, Added, Same, Inserted}
+use Rattle.sparse.proofs.Kids.{Kids, under_in, under_all}
+use Rattle.sparse.proofs.Apart.{not_free, not_root, not_both, holds_same, holds_set}
 
 -- what `rank` answers of the new entry e and the old one o
 abbrev pub Both : Entry → Entry → Entry → Entry → Type 0

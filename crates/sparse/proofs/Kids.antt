@@ -1,11 +1,10 @@
 -- What is known of a tree whose root's record is read.
-use Rattle.std.proofs.Common.{◌≡◌, ℕ, ◌+◌, ◌-◌, ◌*◌, ◌/◌, ◌<◌, ◌≤◌, min, max, ◌≢◌, ◌⊎◌, List, length, get_or, Some, None, Option, sym, refl, ap, ◌∙◌, subst, subst₂, inl, inr, arith}
-use Rattle.std.proofs.lemmas.Bool.{cases_lt}
+use Rattle.std.proofs.Common.{◌≡◌, ℕ, ◌+◌, ◌-◌, ◌*◌, ◌/◌, ◌<◌, ◌≤◌, List, get_or, Some, None, Option, sym, refl, ap, ◌∙◌, subst, inl, inr, arith}
 use Rattle.sparse.specs.declared.record.Entry.{Entry}
 use Rattle.sparse.specs.declared.record.Node.{Node}
 use Rattle.sparse.specs.declared.record.Record.{Record}
 use Rattle.sparse.specs.declared.record.Record.TheVariants.{Free, Used}
-use Rattle.sparse.specs.Trees.{Tree, leaf, node, root, At, Holds, Own, In, Above, Under, Fits, Shows, Least, Last, later, there}
+use Rattle.sparse.specs.Trees.{Tree, leaf, node, root, At, Holds, In, Above, Under, Fits, Shows, there}
 
 -- the root is in the slice
 pub reads : (g : ℕ) (xs : List Record) (link : Option ℕ) (a lo hi : ℕ) (t : Tree) → link ≡ Some a → Shows g xs link lo hi t → (x : Node) × At xs a (Used x)

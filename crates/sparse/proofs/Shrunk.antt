@@ -1,14 +1,13 @@
 -- What `choose`, `pull` and `remove` answer and leave.
-use Rattle.std.proofs.Common.{◌≡◌, ℕ, ◌+◌, ◌-◌, ◌*◌, ◌/◌, ◌<◌, ◌≤◌, ◌≢◌, ◌⊎◌, List, length, get_or, set, Some, None, Option, sym, refl, ap, ◌∙◌, subst, subst₂, inl, inr, arith, length-set}
+use Rattle.std.proofs.Common.{◌≡◌, ℕ, ◌+◌, ◌/◌, ◌<◌, ◌≤◌, ◌≢◌, ◌⊎◌, List, length, set, Some, None, Option, sym, refl, ap, ◌∙◌, subst, subst₂, inl, inr, arith, length-set}
 use Rattle.std.proofs.lemmas.List.{get_or-set_same, get_or-set_other}
-use Rattle.std.proofs.lemmas.Bool.{cases_eq}
 use Rattle.sparse.specs.declared.record.Entry.{Entry}
 use Rattle.sparse.specs.declared.record.Node.{Node}
 use Rattle.sparse.specs.declared.record.Record.{Record}
 use Rattle.sparse.specs.declared.record.Record.TheVariants.{Free, Used}
-use Rattle.sparse.specs.Trees.{Tree, leaf, node, root, At, Holds, Own, In, Above, Under, Fits, Shows, Lacks, Top, Removed, Cut}
+use Rattle.sparse.specs.Trees.{Tree, leaf, node, root, At, Own, In, Above, Under, Fits, Top, Removed, Cut}
 use Rattle.sparse.proofs.Kids.{Kids, under_in, under_all, fits_in}
-use Rattle.sparse.proofs.Apart.{own_reads, not_free, not_root, not_both, holds_same, holds_set}
+use Rattle.sparse.proofs.Apart.{not_root, not_both, holds_same, holds_set}
 
 pub top_in : (e : Entry) (t : Tree) → Top e t → In e t
 top_in e leaf h = elim h [ ]

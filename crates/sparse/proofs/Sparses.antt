@@ -1,12 +1,12 @@
 -- The cells of a sparse tree and the trees that hold them.
-use Rattle.std.proofs.Common.{◌≡◌, ℕ, ◌+◌, ◌-◌, ◌*◌, ◌<◌, ◌≤◌, min, Bool, true, false, cond, ◌&&◌, eqb, ltb, ◌⊎◌, List, length, is_ok, Some, None, Ok, Err, Option, Result, sym, refl, ap, ◌∙◌, subst, subst₂, inl, inr, ⊎_elim, arith}
+use Rattle.std.proofs.Common.{◌≡◌, ℕ, ◌+◌, ◌-◌, ◌<◌, ◌≤◌, min, true, false, cond, ◌&&◌, eqb, ◌⊎◌, List, length, is_ok, Some, None, Ok, Err, Option, Result, sym, refl, ap, ◌∙◌, subst, subst₂, inl, inr, ⊎_elim, arith}
 use mathlib.Core.Path.{fun_ext}
 use Rattle.std.proofs.lemmas.Bool.Decides.{nat_tests}
 use Rattle.std.proofs.lemmas.Bool.{lt-ltb, le-ltb, cases_Bool}
 use Rattle.words.specs.declared.Refusal.{Refusal}
 use Rattle.words.specs.Refusals.{passed, refused, if_done}
-use Rattle.tables.specs.Meaning.{Meaning, one, filled_of, with_cell, Small, least_of, last_of}
-use Rattle.tables.specs.Answers.{allowed, valued, sizable, cell_answer, put_answer, put_after, clear_answer, clear_after, least_answer, last_answer}
+use Rattle.tables.specs.Meaning.{one, filled_of, with_cell, Small, least_of, last_of}
+use Rattle.tables.specs.Answers.{allowed, valued, sizable, cell_answer, put_answer, put_after, clear_after, least_answer, last_answer}
 use Rattle.tables.specs.Checked.{Inside, inside_from}
 use Rattle.tables.proofs.Allowed.{allowed_or, allowed_at, sizable_small}
 use Rattle.tables.proofs.Counting.{same_or, set_cell, filled_set, filled_ge, filled_none}

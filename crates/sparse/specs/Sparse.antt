@@ -1,5 +1,5 @@
 -- What the records of a sparse tree mean.
-use Rattle.std.specs.Prelude.{ℕ, min, cond, List, length, is_ok, Some, None, Option}
+use Rattle.std.specs.Prelude.{ℕ, min, cond, List, length, is_ok, None, Option}
 use Rattle.words.specs.Refusals.{if_done}
 use Rattle.tables.specs.Meaning.{Meaning}
 use Rattle.tables.specs.Answers.{allowed, sizable}

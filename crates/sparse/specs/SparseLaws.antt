@@ -1,6 +1,6 @@
 -- A sparse tree's meaning is lawful.
-use Rattle.std.specs.Prelude.{◌≡◌, ℕ, zero, suc, ◌+◌, ◌/◌, ◌<◌, ◌≤◌, Bool, true, false, cond, ◌⊎◌, List, length, Some, None, Option, ◌==◌, nat_le, nat_lt, slice_index_or, refl}
-use Rattle.std.proofs.Common.{arith, sym, ap, subst, ◌∙◌, inl, inr}
+use Rattle.std.specs.Prelude.{◌≡◌, ℕ, zero, suc, ◌+◌, ◌/◌, ◌<◌, ◌≤◌, Bool, true, false, cond, List, length, Some, None, Option, ◌==◌, nat_le, nat_lt, slice_index_or, refl}
+use Rattle.std.proofs.Common.{arith, sym, ap, subst, ◌∙◌}
 use Rattle.std.proofs.lemmas.Bool.{and_parts, eqb-true, ltb-true}
 use Rattle.words.specs.Refusals.{passed}
 use Rattle.tables.specs.Meaning.{Lawful, Small, filled_of}
@@ -10,7 +10,7 @@ use Rattle.tables.specs.PlainLaws.{held}
 use Rattle.sparse.specs.declared.record.Entry.{Entry}
 use Rattle.sparse.specs.declared.record.Record.{Record}
 use Rattle.sparse.specs.declared.record.Record.TheVariants.{Free, Used}
-use Rattle.sparse.specs.Trees.{Tree, leaf, node}
+use Rattle.sparse.specs.Trees.{Tree}
 use Rattle.sparse.specs.Form.{tree_at, tree_from, first_of, value_in, held_in, below, formed_at, formed, valued_below, tree_formed, trees, tree_number}
 use Rattle.sparse.specs.Sparse.{sparse_cell, sparse_meaning}
 

@@ -1,7 +1,6 @@
 -- The tree that the records of a slice stand for, and what its nodes hold.
-use Rattle.std.specs.Prelude.{◌≡◌, ℕ, ◌+◌, ◌/◌, ◌<◌, ◌≤◌, min, max, ◌≢◌, ◌⊎◌, List, length, Some, None, Option, slice_index_or}
+use Rattle.std.specs.Prelude.{◌≡◌, ℕ, ◌+◌, ◌/◌, ◌<◌, ◌≤◌, max, ◌≢◌, ◌⊎◌, List, length, Some, None, Option, slice_index_or}
 use Rattle.sparse.specs.declared.record.Entry.{Entry}
-use Rattle.sparse.specs.declared.record.Node.{Node}
 use Rattle.sparse.specs.declared.record.Record.{Record}
 use Rattle.sparse.specs.declared.record.Record.TheVariants.{Free, Used}
 use Rattle.sparse.specs.declared.record.Choice.{Choice}

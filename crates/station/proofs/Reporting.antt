@@ -1,16 +1,14 @@
 -- The loop over the steps: the answers so far, the law of the calls among them, and their lines in the buffer.
-use Rattle.std.proofs.Common.{◌≡◌, ℕ, zero, suc, ◌+◌, ◌*◌, ◌<◌, ◌≤◌, true, List, [], ◌∷◌, ◌++◌, length, drop, Some, None, Option, sym, refl, ap, ◌∙◌, subst, append_assoc, append-nil, add-one, arith, length-append}
-use Rattle.words.specs.Refusals.{numbered}
+use Rattle.std.proofs.Common.{◌≡◌, ℕ, zero, suc, ◌+◌, ◌*◌, ◌<◌, ◌≤◌, List, [], ◌∷◌, ◌++◌, length, drop, Some, None, Option, sym, refl, ap, ◌∙◌, subst, append_assoc, append-nil, add-one, arith, length-append}
 use Rattle.tables.specs.Meaning.{Meaning}
 use Rattle.stores.specs.Holding.{Holding}
 use Rattle.board.specs.Standing.{Limits, Stands}
 use Rattle.runs.specs.declared.calls.Ask.{Ask}
 use Rattle.runs.specs.declared.calls.Answer.{Answer}
-use Rattle.runs.specs.declared.calls.Answer.TheVariants.{Refused}
-use Rattle.runs.specs.Law.{Event, after_call, standing, Law}
+use Rattle.runs.specs.Law.{Event, standing, Law}
 use Rattle.runs.proofs.Stepping.{upright}
 use Rattle.runs.proofs.Runs.{law_none, law_more, standing_snoc}
-use Rattle.station.specs.Text.{Pours, poured}
+use Rattle.station.specs.Text.{Pours}
 use Rattle.station.specs.Edit.{shuttles_of, moves_of, count_of, step_at, steps_below}
 use Rattle.station.specs.Report.{line, lines_from, first_line, report_of}
 use Rattle.station.specs.Station.{events, UnknownRefused, Reported, StepTaken}

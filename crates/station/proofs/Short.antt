@@ -1,5 +1,5 @@
 -- A line of the report has at most 24 bytes.
-use Rattle.std.proofs.Common.{◌≡◌, ℕ, ◌+◌, ◌*◌, ◌/◌, ◌%◌, ◌^◌, ◌<◌, ◌≤◌, Bool, cond, List, [], ◌∷◌, ◌++◌, length, Some, None, Ok, Err, decimal, Option, Result, sym, refl, ◌∙◌, subst, arith, length-append}
+use Rattle.std.proofs.Common.{ℕ, ◌/◌, ◌%◌, ◌<◌, ◌≤◌, Bool, List, length, Some, None, Ok, Err, decimal, Option, Result, sym, subst, arith, length-append}
 use Rattle.std.proofs.lemmas.Fmt.{length-decimal-le}
 use Rattle.words.specs.declared.Refusal.{Refusal}
 use Rattle.words.specs.declared.Refusal.TheVariants.{NoSuchShuttle, NoSuchPlace, SameShuttle, AlreadyHeld, NotHeld, Circle, StoreFull, TableFull, TooShort, BadForm, BadSize, NoSuchKind}
@@ -17,7 +17,7 @@ use Rattle.runs.specs.declared.calls.Ask.TheVariants.{Place, Remove, Before as I
 use Rattle.runs.specs.declared.calls.Answer.{Answer}
 use Rattle.runs.specs.declared.calls.Answer.TheVariants.{Pending, Done, Refused, Truth, Found as Found_at, Listed, Tested}
 use Rattle.runs.specs.Law.{Answered, done_answer, truth_answer, found_answer, count_answer}
-use Rattle.station.specs.Report.{returned_number, next_number, move_text, finding_text, line, first_line}
+use Rattle.station.specs.Report.{returned_number, finding_text, line, first_line}
 
 number_small : (e : Refusal) → number_of e < 100
 number_small NoSuchShuttle = omega arith

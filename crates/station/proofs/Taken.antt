@@ -1,9 +1,9 @@
 -- What it says that the station takes a file: the board that it makes then.
-use Rattle.std.proofs.Common.{◌≡◌, ℕ, ◌+◌, ◌-◌, ◌*◌, ◌^◌, ◌<◌, ◌≤◌, true, leb, List, length, None, Ok, Err, Result, sym, refl, ap, ◌∙◌, subst, ⊎_elim, le_refl, mul-le-mul, arith, pow_mono}
+use Rattle.std.proofs.Common.{◌≡◌, ℕ, ◌+◌, ◌-◌, ◌*◌, ◌^◌, ◌<◌, ◌≤◌, true, leb, List, length, None, Err, Result, sym, refl, ap, ◌∙◌, subst, ⊎_elim, le_refl, mul-le-mul, arith, pow_mono}
 use Rattle.std.proofs.lemmas.Bool.Decides.{nat_tests}
 use Rattle.std.proofs.lemmas.Bool.{leb-true, le-leb, cases_lt}
 use Rattle.words.specs.declared.Refusal.{Refusal}
-use Rattle.words.specs.Refusals.{number_of, passed, then, unless, if_done}
+use Rattle.words.specs.Refusals.{number_of, passed, unless, if_done}
 use Rattle.words.proofs.Checks.{then_first, then_second, then_ok, unless_passed}
 use Rattle.tables.specs.Meaning.{Meaning, full_meaning}
 use Rattle.tables.specs.Answers.{sizable}

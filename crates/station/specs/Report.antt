@@ -1,6 +1,6 @@
 -- The report. Its first line is the shuttles, the moves and the count of steps. Each step has a line: its number from 1, and its returned number;
 -- a question that is taken adds its finding (1 or 0; or s.i, or - for none) and its rounds. Single blanks separate, a line feed ends each line.
-use Rattle.std.specs.Prelude.{ℕ, suc, ◌/◌, ◌%◌, Bool, cond, List, [], ◌∷◌, ◌++◌, Some, None, decimal, Option}
+use Rattle.std.specs.Prelude.{ℕ, suc, ◌/◌, ◌%◌, cond, List, [], ◌∷◌, ◌++◌, Some, None, decimal, Option}
 use Rattle.words.specs.Refusals.{number_of}
 use Rattle.runs.specs.declared.calls.Answer.{Answer}
 use Rattle.runs.specs.declared.calls.Answer.TheVariants.{Pending, Done, Refused, Truth, Found, Listed, Tested}

@@ -1,4 +1,4 @@
-use Rattle.std.proofs.Common.{◌≡◌, cond, eqb, Some, ◌∙◌, arith, length-set, rules, eq-eqb, ne_eqb}
+use Rattle.std.proofs.Common.{cond, eqb, Some, ◌∙◌, arith, length-set, rules, eq-eqb, ne_eqb}
 use Rattle.questions.specs.Looking.{look_of}
 use Rattle.tables.specs.Meaning.{Meaning}
 use Rattle.questions.proofs.Begun.{begun_more}

@@ -1,11 +1,9 @@
-use Rattle.std.proofs.Common.{◌≡◌, ◌*◌, ◌≤◌, length, sym, refl, ◌∙◌, subst, arith, length-set, rules}
+use Rattle.std.proofs.Common.{sym, refl, ◌∙◌, subst, arith, rules}
 use mathlib.Core.Bool.{false≢true}
-use Rattle.tables.specs.Meaning.{Meaning}
 use Rattle.order.specs.Rounds.{Table}
 use Rattle.questions.specs.Looking.{look_of, pick_of, Places}
 use Rattle.questions.proofs.Looks.{look_under}
 use Rattle.questions.proofs.Relaxing.{pulled_skip, pulled_step, pulled_all, swept_skip, swept_step, swept_all}
-use Rattle.questions.proofs.Falls.{weight_le}
 use Rattle.questions.proofs.Turns.{turning_none, turning_less, turning_more, turning_ends, turning_small}
 use Rattle.questions.proofs.rounds.settle.Goals as goal
 use Rattle.questions.proofs.rounds.settle.Goals.{then-r-q, else-r-q, then-q-s+else-loop-r-test, else-q-s}

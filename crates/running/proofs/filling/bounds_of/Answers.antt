@@ -1,4 +1,4 @@
-use Rattle.std.proofs.Common.{◌≡◌, ◌∙◌, arith, length-set}
+use Rattle.std.proofs.Common.{◌∙◌, arith, length-set}
 use Rattle.running.proofs.Reaching.{counts_more, reaches}
 use Rattle.running.proofs.filling.bounds_of.Goals as goal
 

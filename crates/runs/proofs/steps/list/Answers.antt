@@ -1,4 +1,3 @@
-use Rattle.std.proofs.Common.{refl}
 use Rattle.runs.proofs.Stepping.{step_list}
 use Rattle.runs.proofs.steps.list.Goals as goal
 

@@ -1,4 +1,3 @@
-use Rattle.std.proofs.Common.{refl}
 use Rattle.runs.proofs.Stepping.{step_push}
 use Rattle.runs.proofs.steps.push.Goals as goal
 

@@ -1,4 +1,4 @@
-use Rattle.std.proofs.Common.{◌≡◌, ◌+◌, sym, ap, subst, arith}
+use Rattle.std.proofs.Common.{◌+◌, ap, arith}
 use Rattle.station.specs.Station.{Made}
 use Rattle.station.proofs.Alike.{reports_alike}
 use Rattle.station.proofs.Files.{formed}

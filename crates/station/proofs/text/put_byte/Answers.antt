@@ -1,4 +1,4 @@
-use Rattle.std.proofs.Common.{◌≡◌, sym, refl, ◌∙◌, arith}
+use Rattle.std.proofs.Common.{sym, refl, ◌∙◌, arith}
 use Rattle.station.proofs.Pouring.{set_beyond}
 use Rattle.station.proofs.text.put_byte.Goals as goal
 use Rattle.station.proofs.text.put_byte.Goals.{then-at-out, else-at-out}

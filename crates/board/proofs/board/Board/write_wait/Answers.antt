@@ -1,4 +1,4 @@
-use Rattle.std.proofs.Common.{◌≡◌, sym, ◌∙◌, arith}
+use Rattle.std.proofs.Common.{sym, ◌∙◌, arith}
 use Rattle.tables.specs.Meaning.{Meaning}
 use Rattle.stores.specs.Holding.{Holding}
 use Rattle.words.proofs.Checks.{then_first, left_alone_done}

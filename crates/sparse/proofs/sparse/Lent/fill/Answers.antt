@@ -1,5 +1,5 @@
 use Rattle.std.proofs.Common.{refl, arith}
-use Rattle.sparse.proofs.Changes.{taken, head_free, head_none, lacks_held, grown_good, grown_cells}
+use Rattle.sparse.proofs.Changes.{head_free, head_none, lacks_held, grown_good, grown_cells}
 use Rattle.sparse.proofs.sparse.Lent.fill.Goals as goal
 
 pub unreachable-requires : goal.unreachable-requires
