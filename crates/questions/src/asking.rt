@@ -3,7 +3,7 @@ ghost use Rattle.std.specs.Prelude.{◌≡◌, ◌<◌, ◌≤◌};
 ghost use Rattle.words.specs.Refusals.{passed};
 ghost use Rattle.questions.specs.Checks.{move_check};
 ghost use Rattle.questions.specs.Looking.{Under};
-ghost use Rattle.questions.specs.Asking.{coded as coded-of, up_to, Finding, Asked, Told};
+ghost use Rattle.questions.specs.Asking.{coded as coded_of, up_to, Finding, Asked, Told};
 
 use crate::checks::{check_moves, check_question};
 use crate::rounds::{Way, search};
@@ -13,7 +13,7 @@ use words::Refusal;
 // The code of t's move at the entry's place.
 fn coded(t: u16, entry: Option<u16>) -> Option<u16>
     requires { (t < 16) × (Under 4096 entry) }
-    ensures { result ≡ coded-of t entry }
+    ensures { result ≡ coded_of t entry }
 {
     match entry {
         Some(p) => Some(t * 4096 + p),

@@ -1,7 +1,7 @@
 // What every kind of table checks and compares.
 ghost use Rattle.std.specs.Prelude.{◌≡◌, ◌==◌, nat_le, nat_lt};
 ghost use Rattle.words.specs.Refusals.{then, unless, refused_if};
-ghost use Rattle.tables.specs.Meaning.{one, smaller as smaller-of, at_most};
+ghost use Rattle.tables.specs.Meaning.{one, smaller as smaller_of, at_most};
 ghost use Rattle.tables.specs.Answers.{allowed, valued, sizable};
 
 use words::Refusal;
@@ -62,7 +62,7 @@ pub fn check_cell(k: u16, n: u16, s: u16, t: u16, i: u16) -> Result<(), Refusal>
 
 // The smaller of two values, where none is greater than each number.
 pub fn smaller(a: Option<u16>, b: Option<u16>) -> Option<u16>
-    ensures { result ≡ smaller-of a b }
+    ensures { result ≡ smaller_of a b }
 {
     match (a, b) {
         (Some(x), Some(y)) => { if y < x { Some(y) } else { Some(x) } }
