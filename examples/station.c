@@ -1,5 +1,6 @@
 /* Prints the report of an edit file, as the planning station would get it:
- *   rt staticlib station
+ *   (cd crates/station_c && rt lib) && mkdir -p target/staticlib
+ *   cp crates/station_c/out/libstation_c.a target/staticlib/libstation.a
  *   cc -Iinclude examples/station.c target/staticlib/libstation.a -o target/station
  *   target/station examples/worked.edit
  */
