@@ -71,8 +71,6 @@ fn a_pair_of_a_hundred(rt: HostRuntime) {
     hundred(&rt, Plain::make(2, 100, &mut cells));
     let mut trees = [0u16; 1024];
     hundred(&rt, FullTree::make(2, 100, &mut trees));
-    let mut records = [Record::Free(None); 4];
-    hundred(&rt, SparseTree::make(2, 100, &mut records));
 }
 
 #[test]
@@ -81,8 +79,6 @@ fn a_pair_of_ten(rt: HostRuntime) {
     ten(&rt, Plain::make(2, 10, &mut cells));
     let mut trees = [0u16; 128];
     ten(&rt, FullTree::make(2, 10, &mut trees));
-    let mut records = [Record::Free(None); 2];
-    ten(&rt, SparseTree::make(2, 10, &mut records));
 }
 
 #[test]
@@ -94,9 +90,6 @@ fn places_at_the_edge(rt: HostRuntime) {
     edge(&rt, FullTree::make(2, 9, &mut trees));
     edge(&rt, Plain::make(2, 1, &mut trees));
     edge(&rt, Plain::make(2, 9, &mut trees));
-    let mut records = [Record::Free(None); 1];
-    edge(&rt, SparseTree::make(2, 1, &mut records));
-    edge(&rt, SparseTree::make(2, 9, &mut records));
 }
 
 fn refused(answer: Result<(), Refusal>) -> u16 {
@@ -118,6 +111,15 @@ fn sizes_and_buffers(rt: HostRuntime) {
     assert_eq!(rt; refused(check_plain(17, 1, 0)), 11);
     assert_eq!(rt; refused(check_full(1, 0, 0)), 11);
     assert_eq!(rt; refused(check_full(1, 4097, 0)), 11);
+}
+
+#[test]
+fn pairs_of_a_sparse_tree(rt: HostRuntime) {
+    let mut records = [Record::Free(None); 4];
+    hundred(&rt, SparseTree::make(2, 100, &mut records));
+    ten(&rt, SparseTree::make(2, 10, &mut records));
+    edge(&rt, SparseTree::make(2, 1, &mut records));
+    edge(&rt, SparseTree::make(2, 9, &mut records));
     assert_eq!(rt; refused(check_sparse(16, 4096)), 0);
     assert_eq!(rt; refused(check_sparse(17, 4096)), 11);
 }

@@ -116,7 +116,7 @@ fn is_badly_formed(heap: Global, file: &[u8]) -> bool {
 }
 
 #[test]
-fn damaged_files(rt: HostRuntime) {
+fn damaged_edit_files(rt: HostRuntime) {
     let heap = rt.alloc();
     assert!(rt; is_badly_formed(heap, &[]));
     assert!(rt; is_badly_formed(heap, &STEPS[0..37]));
