@@ -3,9 +3,9 @@ use Rattle.std.proofs.Common.{◌≡◌, Bool, true, false, cond, not, ◌⊎◌
 use mathlib.Core.Bool.{false≢true}
 use Rattle.order.specs.Lists.{In, Earlier, Reaches, there, onward, parted}
 
-not-true : (b : Bool) → b ≡ true → not b ≡ true → ⊥
-not-true true p q = false≢true q
-not-true false p q = false≢true p
+not_true : (b : Bool) → b ≡ true → not b ≡ true → ⊥
+not_true true p q = false≢true q
+not_true false p q = false≢true p
 
 module _ {X : Type 0} where
   -- ends
@@ -137,7 +137,7 @@ module _ {X : Type 0} where
       where
         go : Earlier (filter B l) x x ⊎ ((In (filter B l) x × In (filter (λ w. not (B w)) l) x) ⊎ Earlier (filter (λ w. not (B w)) l) x x) → ⊥
         go (inl p) = once_kept B l once x p
-        go (inr (inl p)) = not-true (B x) (in_of_kept B l x p.0).1 (in_of_kept (λ w. not (B w)) l x p.1).1
+        go (inr (inl p)) = not_true (B x) (in_of_kept B l x p.0).1 (in_of_kept (λ w. not (B w)) l x p.1).1
         go (inr (inr p)) = once_kept (λ w. not (B w)) l once x p
 
     pub earlier_apart : (l : List X) (x y : X) → B x ≡ true → B y ≡ false → In l x → In l y → Earlier (parted B l) x y

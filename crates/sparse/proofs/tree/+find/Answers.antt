@@ -1,6 +1,6 @@
 use Rattle.std.proofs.Common.{◌≡◌, ap, arith}
 use Rattle.sparse.specs.Trees.{there}
-use Rattle.sparse.proofs.Kids.{reads, kids, left_falls, right_falls}
+use Rattle.sparse.proofs.Kids.{reads, kids, right_falls}
 use Rattle.sparse.proofs.Finds.{found_left, found_right}
 use Rattle.sparse.proofs.tree.+find.Goals as goal
 
@@ -16,12 +16,6 @@ pub returns-else-place-mid : goal.returns-else-place-mid
 returns-else-place-mid t c g tree s =
     let k = kids tree c.in-Some.is c.read-node.ensures s in
     found_right k c.args.place c.if-node-place.false c.if-place-mid.false c.find-else-place-mid.result (c.find-else-place-mid.ensures g k.r k.right_shows)
-
-pub find-requires : goal.find-requires
-find-requires t c =
-    let k = kids c.requires.stands.1 c.in-Some.is c.read-node.ensures c.requires.stands.2 in
-    let is : there c.args.at ≡ 1 = ap there c.in-Some.is in
-    (omega (arith, c.decreases, left_falls k), (omega (arith, k.low, k.high), (omega (arith, c.requires.small), (c.requires.stands.0, k.l, k.left_shows))))
 
 pub find-requires-else-place-mid : goal.find-requires-else-place-mid
 find-requires-else-place-mid t c =

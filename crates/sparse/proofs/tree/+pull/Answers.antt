@@ -32,10 +32,6 @@ returns-in-Right t c tree e s top =
     pull_right k c.pull-rest-in-Right.new.records c.pull-rest-in-Right.result.freed c.args.next e c.in-Right.entry c.read-node.ensures c.pull-rest-in-Right.auto.records top
     c.pull-rest-in-Right.result.link c.write-in-Right.new.records c.write-in-Right.ensures chosen.1 chosen.2 sub
 
-pub choose-requires-clause-left : goal.choose-requires-clause-left
-choose-requires-clause-left t c =
-    let k = kids c.requires.stands.0 refl c.read-node.ensures c.requires.stands.1 in (c.args.tree, k.l, k.left_shows)
-
 pub choose-requires-clause-right : goal.choose-requires-clause-right
 choose-requires-clause-right t c =
     let k = kids c.requires.stands.0 refl c.read-node.ensures c.requires.stands.1 in (c.args.tree, k.r, k.right_shows)
