@@ -1,2 +1,4 @@
 pub mod Refusals
 pub mod Codes
+pub mod Texts
+pub mod Kinds
