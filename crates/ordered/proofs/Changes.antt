@@ -7,13 +7,15 @@ use Rattle.std.proofs.lemmas.Bool.Decides.{nat_tests}
 use Rattle.stores.specs.declared.wait.Wait.{Wait}
 use Rattle.stores.specs.Holding.{with_wait, less_wait}
 use Rattle.stores.specs.Waits.{wait_of, is_wait, held_in}
-use Rattle.stores.specs.Loose.{room, loose_holding}
+use Rattle.stores.specs.Rows.{room}
+use Rattle.stores.specs.Loose.{loose_holding}
 use Rattle.stores.proofs.Waits.{or_turn, out_of, in_for, is_wait_at, not_at}
 use Rattle.stores.proofs.Records.{same_holding}
-use Rattle.ordered.specs.Ordered.{comes_before, leads, ascends, place_in, put_in, taken_out}
+use Rattle.stores.specs.Rows.{put_in, taken_out}
+use Rattle.ordered.specs.Ordered.{comes_before, leads, ascends, place_in}
 use Rattle.ordered.specs.OrderedLaws.{not_before_itself, not_led}
 use Rattle.ordered.proofs.Places.{place_within}
-use Rattle.ordered.proofs.Shifts.{put_in_used, length_put_in, taken_out_used, length_taken_out}
+use Rattle.stores.proofs.Shifts.{put_in_used, length_put_in, taken_out_used, length_taken_out}
 
 -- one record put in
 

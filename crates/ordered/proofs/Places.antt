@@ -1,12 +1,15 @@
 -- The place of a wait among records that stand in order.
-use Rattle.std.proofs.Common.{◌≡◌, ℕ, zero, suc, ◌<◌, ◌≤◌, Bool, true, false, cond, ◌&&◌, ltb, List, [], ◌∷◌, length, get_or, take, sym, refl, ap, ◌∙◌, inl, inr, arith}
+use Rattle.std.proofs.Common.{◌≡◌, ℕ, zero, suc, ◌<◌, ◌≤◌, Bool, true, false, cond, ltb, List, [], ◌∷◌, length, get_or, take, sym, refl, ap, ◌∙◌, inl, inr, arith}
+use Rattle.std.specs.List.{slice_get}
+use Rattle.std.specs.List.Sorted.{IsPartitionedBy, IsPartitionPoint}
+use Rattle.std.proofs.lemmas.Option.{slice_get-get_or}
 use Rattle.std.proofs.lemmas.List.{length-take-le, get_or-take}
-use Rattle.std.proofs.lemmas.Bool.{and_parts, and_left, cases_Bool, cases_lt, cond_both, lt-ltb, le-ltb, ltb-true, ltb-false}
+use Rattle.std.proofs.lemmas.Bool.{and_parts, both_ways, cases_Bool, cond_both, lt-ltb, le-ltb, ltb-true}
 use Rattle.std.proofs.lemmas.Bool.Decides.{nat_tests}
 use Rattle.stores.specs.declared.wait.Wait.{Wait}
 use Rattle.stores.specs.Waits.{wait_of, is_wait, held_in}
 use Rattle.stores.specs.LooseLaws.{is_wait_is}
-use Rattle.ordered.specs.Ordered.{comes_before, leads, ascends, place_in, is_at}
+use Rattle.ordered.specs.Ordered.{comes_before, leads, ascends, place_in, some_wait}
 use Rattle.ordered.specs.OrderedLaws.{not_led}
 
 place_le : (l : List Wait) (u v : ℕ) → place_in l u v ≤ length l
@@ -48,14 +51,34 @@ before_place (w ∷ l) (suc m) d u v up h =
 before_apart : (w : Wait) (u v : ℕ) → comes_before w u v ≡ true → is_wait w u v ≡ false
 before_apart w u v e = grind (arith, nat_tests)
 
-held_place : (l : List Wait) (d : Wait) (u v : ℕ) → ascends l ≡ true → (ltb (place_in l u v) (length l) && is_wait (get_or l (place_in l u v) d) u v) ≡ held_in l u v
-held_place [] d u v up = refl
-held_place (w ∷ l) d u v up =
+pub held_place : (l : List Wait) (u v : ℕ) → ascends l ≡ true → some_wait (slice_get l (place_in l u v)) u v ≡ held_in l u v
+held_place [] u v up = refl
+held_place (w ∷ l) u v up =
     let o = and_parts _ _ up in
     elim (cases_Bool (comes_before w u v)) [
-      | inl e ↦ let a = before_apart w u v e in rw e (rw a (ap (λ t. t && is_wait (get_or l (place_in l u v) d) u v) (ltb_both (place_in l u v) (length l)) ∙ held_place l d u v o.1))
+      | inl e ↦ let a = before_apart w u v e in rw e (rw a (held_place l u v o.1))
       | inr e ↦ let n = not_led w l u v o.0 e in rw e (rw n (grind arith))
     ]
+
+-- the library's search for the place
+
+pub parted : (l : List Wait) (u v : ℕ) → ascends l ≡ true → IsPartitionedBy (λ w. comes_before w u v) l
+parted l u v up i j d less in' before =
+    let p = place_in l u v in
+    let below : j < p = ltb-true j p (sym (before_place l j d u v up in') ∙ before) in
+    before_place l i d u v up (omega arith) ∙ lt-ltb i p (omega arith)
+
+pub place_is : (l : List Wait) (u v i : ℕ) → i ≤ length l → IsPartitionPoint (λ w. comes_before w u v ≡ true) (λ w. comes_before w u v ≡ false) l i → i ≡ place_in l u v
+place_is [] u v i few part = omega arith
+place_is (w ∷ l) u v zero few part = let e = part.1 0 w (omega arith) (omega arith) in rw e refl
+place_is (w ∷ l) u v (suc i) few part =
+    let e = part.0 0 w (omega arith) (omega arith) in
+    rw e (ap suc (place_is l u v i (omega arith) ((λ k d a b. part.0 (suc k) d (omega arith) (omega arith)), (λ k d a b. part.1 (suc k) d (omega arith) (omega arith)))))
+
+within_some : (l : List Wait) (p u v : ℕ) → some_wait (slice_get l p) u v ≡ true → p < length l
+within_some [] p u v e = absurd (both_ways _ refl e)
+within_some (w ∷ l) zero u v e = omega arith
+within_some (w ∷ l) (suc p) u v e = let h = within_some l p u v e in omega arith
 
 -- the same of the first n records
 
@@ -63,37 +86,17 @@ module _ (records : List Wait) (n u v : ℕ) (few : n ≤ length records) where
   pub place_within : place_in (take n records) u v ≤ n
   place_within = omega (arith, place_le (take n records) u v, length-take-le n records few)
 
-  module _ (up : ascends (take n records) ≡ true) where
-    before_at : (m : ℕ) → m < n → comes_before (get_or records m (wait_of 0 0)) u v ≡ ltb m (place_in (take n records) u v)
-    before_at m l =
-        ap (λ w. comes_before w u v) (sym (get_or-take n records m (wait_of 0 0) l))
-        ∙ before_place (take n records) m (wait_of 0 0) u v up (omega (arith, length-take-le n records few))
+  module _ (up : ascends (take n records) ≡ true) (held : true ≡ held_in (take n records) u v) where
+    there : some_wait (slice_get (take n records) (place_in (take n records) u v)) u v ≡ true
+    there = held_place (take n records) u v up ∙ sym held
 
-    pub place_above : (m : ℕ) → m < n → true ≡ comes_before (get_or records m (wait_of 0 0)) u v → m < place_in (take n records) u v
-    place_above m l e = ltb-true m (place_in (take n records) u v) (sym (e ∙ before_at m l))
+    pub held_below : place_in (take n records) u v < n
+    held_below = omega (arith, within_some (take n records) (place_in (take n records) u v) u v there, length-take-le n records few)
 
-    pub place_up_to : (m : ℕ) → m < n → false ≡ comes_before (get_or records m (wait_of 0 0)) u v → place_in (take n records) u v ≤ m
-    place_up_to m l e = ltb-false m (place_in (take n records) u v) (sym (e ∙ before_at m l))
-
-    pub at_place : is_at records n (place_in (take n records) u v) u v ≡ held_in (take n records) u v
-    at_place =
+    pub held_there : get_or records (place_in (take n records) u v) (wait_of 0 0) ≡ wait_of u v
+    held_there =
         let p = place_in (take n records) u v in
         let size = length-take-le n records few in
-        let there = held_place (take n records) (wait_of 0 0) u v up in
-        elim (cases_lt p n) [
-          | inl l ↦
-              ap (λ w. ltb p n && is_wait w u v) (sym (get_or-take n records p (wait_of 0 0) l))
-              ∙ ap (λ m. ltb p m && is_wait (get_or (take n records) p (wait_of 0 0)) u v) (sym size)
-              ∙ there
-          | inr m ↦ and_left _ _ (le-ltb p n m) ∙ sym (and_left _ _ (le-ltb p (length (take n records)) (omega arith))) ∙ there
-        ]
-
-    module _ (held : true ≡ held_in (take n records) u v) where
-      found : (ltb (place_in (take n records) u v) n ≡ true) × (is_wait (get_or records (place_in (take n records) u v) (wait_of 0 0)) u v ≡ true)
-      found = and_parts _ _ (at_place ∙ sym held)
-
-      pub held_below : place_in (take n records) u v < n
-      held_below = ltb-true (place_in (take n records) u v) n found.0
-
-      pub held_there : get_or records (place_in (take n records) u v) (wait_of 0 0) ≡ wait_of u v
-      held_there = is_wait_is (get_or records (place_in (take n records) u v) (wait_of 0 0)) u v found.1
+        let at = slice_get-get_or (take n records) p (wait_of 0 0) (omega (arith, held_below)) in
+        is_wait_is (get_or records p (wait_of 0 0)) u v
+        (ap (λ w. is_wait w u v) (sym (get_or-take n records p (wait_of 0 0) held_below)) ∙ ap (λ o. some_wait o u v) (sym at) ∙ there)

@@ -5,7 +5,8 @@ use Rattle.std.proofs.lemmas.Bool.{and_parts, and_from, and_right, or_from, not_
 use Rattle.stores.specs.declared.wait.Wait.{Wait}
 use Rattle.stores.specs.Holding.{Lawful}
 use Rattle.stores.specs.Waits.{is_wait, held_in, single}
-use Rattle.stores.specs.Loose.{room, loose_holding}
+use Rattle.stores.specs.Rows.{room}
+use Rattle.stores.specs.Loose.{loose_holding}
 use Rattle.stores.specs.LooseLaws.{is_wait_is, loose_lawful}
 use Rattle.ordered.specs.Ordered.{comes_before, leads, ascends}
 

@@ -1,49 +1,19 @@
 -- The first records of a list that is not in order: what they hold after each step of the loose list's code.
-use Rattle.std.proofs.Common.{◌≡◌, ℕ, suc, pred, ◌+◌, ◌<◌, ◌≤◌, Bool, true, false, not, ◌&&◌, ◌||◌, List, [], ◌∷◌, ◌++◌, length, get_or, take, set, Option, sym, refl, ap, ◌∙◌, ⊎_elim, arith}
+use Rattle.std.proofs.Common.{◌≡◌, ℕ, suc, pred, ◌+◌, ◌<◌, ◌≤◌, Bool, true, false, not, ◌&&◌, List, [], ◌∷◌, ◌++◌, length, get_or, take, set, sym, ap, ◌∙◌, ⊎_elim, arith}
 use mathlib.Core.Path.{fun_ext}
 use lib.Seq.{take-set-lt}
 use Rattle.std.proofs.lemmas.List.{length-set, length-take-le, take_more, take_more_set, take-set, get_or-take}
 use Rattle.std.proofs.lemmas.Bool.{cases_lt}
-use Rattle.order.specs.Rounds.{sooner}
 use Rattle.stores.specs.declared.wait.Wait.{Wait}
-use Rattle.stores.specs.Holding.{Holding, Earliest, with_wait, less_wait}
+use Rattle.stores.specs.Holding.{Holding, with_wait, less_wait}
 use Rattle.stores.specs.Waits.{wait_of, is_wait, held_in, single}
-use Rattle.stores.specs.Loose.{room, loose_holding}
-use Rattle.stores.specs.LooseLaws.{is_wait_is}
-use Rattle.stores.proofs.Waits.{is_wait_at, held_push, held_at, single_push, single_pop, single_set, held_moved, held_dropped}
-use Rattle.stores.proofs.Earliest.{earliest_either}
+use Rattle.stores.specs.Rows.{room}
+use Rattle.stores.specs.Loose.{loose_holding}
+use Rattle.stores.proofs.Waits.{held_push, single_push, single_pop, single_set, held_moved, held_dropped}
 
 pub same_holding : (f g : ℕ → ℕ → Bool) (c d m n : ℕ) → ((a b : ℕ) → f a b ≡ g a b) → c ≡ d → m ≡ n
     → ◌≡◌ {A = Holding} (record { held = f; count = c; capacity = m }) (record { held = g; count = d; capacity = n })
 same_holding f g c d m n same counts sizes = let e : f ≡ g = fun_ext (λ a. fun_ext (λ b. same a b)) in cc
-
--- looking for a record
-
-module _ (records : List Wait) (d : Wait) (i : ℕ) where
-  pub held_more : (u v : ℕ) → i < length records → held_in (take (i + 1) records) u v ≡ (is_wait (get_or records i d) u v || held_in (take i records) u v)
-  held_more u v l = ap (λ k. held_in k u v) (take_more records i d l) ∙ held_push (take i records) (get_or records i d) u v
-
-  pub found_at : (n u v : ℕ) → i < n → n ≤ length records → is_wait (get_or records i d) u v ≡ true
-      → (held_in (take n records) u v ≡ true) × (i < n) × (get_or records i d ≡ wait_of u v)
-  found_at n u v l few e =
-      let in' : i < length (take n records) = omega (arith, length-take-le n records few) in
-      let at : held_in (take n records) (get_or records i d).first (get_or records i d).second ≡ true = rw (get_or-take n records i d l) at (held_at (take n records) i d in') in
-      (is_wait_at (get_or records i d) u v e (held_in (take n records)) ∙ at, l, is_wait_is (get_or records i d) u v e)
-
--- the earliest place, with one record more
-
-or_none : (x y : Bool) → (x || y) ≡ (y || (x || false))
-or_none true true = refl
-or_none true false = refl
-or_none false true = refl
-or_none false false = refl
-
-pub earliest_more : (records : List Wait) (d : Wait) (i u t : ℕ) (a b : Option ℕ) → i < length records → Earliest (loose_holding records i) u t a
-    → Earliest (loose_holding (get_or records i d ∷ []) 1) u t b → Earliest (loose_holding records (i + 1)) u t (sooner a b)
-earliest_more records d i u t a b l p q =
-    earliest_either (loose_holding records i) (loose_holding (get_or records i d ∷ []) 1) (loose_holding records (i + 1)) u t
-    (λ v. held_more records d i u v l ∙ or_none (is_wait (get_or records i d) u v) (held_in (take i records) u v))
-    a b p q
 
 -- one wait more
 

@@ -1,4 +1,5 @@
 pub mod Holding
 pub mod Waits
+pub mod Rows
 pub mod Loose
 pub mod LooseLaws

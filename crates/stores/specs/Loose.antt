@@ -1,13 +1,10 @@
 -- What a loose list means: the waits in the first `count` of its records, in any order.
-use Rattle.std.specs.Prelude.{◌≡◌, ℕ, ◌-◌, ◌<◌, min, false, List, length, take, Ok, Err, Result, slice_index_or, slice_set}
+use Rattle.std.specs.Prelude.{◌≡◌, ℕ, ◌-◌, ◌<◌, false, List, length, take, Ok, Err, Result, slice_index_or, slice_set}
 use Rattle.words.specs.declared.Refusal.{Refusal}
 use Rattle.stores.specs.declared.wait.Wait.{Wait}
 use Rattle.stores.specs.Holding.{Holding}
 use Rattle.stores.specs.Waits.{wait_of, held_in}
-
--- how many waits a list over so many records can hold
-abbrev pub room : ℕ → ℕ
-room n = min n 65535
+use Rattle.stores.specs.Rows.{room}
 
 abbrev pub loose_holding : List Wait → (count : ℕ) → Holding
 loose_holding records count = record { held = held_in (take count records); count = count; capacity = room (length records) }

@@ -7,7 +7,8 @@ use Rattle.order.specs.Lists.{In, Earlier}
 use Rattle.stores.specs.declared.wait.Wait.{Wait}
 use Rattle.stores.specs.Holding.{Lawful}
 use Rattle.stores.specs.Waits.{wait_of, is_wait, held_in, single}
-use Rattle.stores.specs.Loose.{room, loose_holding}
+use Rattle.stores.specs.Rows.{room}
+use Rattle.stores.specs.Loose.{loose_holding}
 
 abbrev pair_of : Wait → ℕ × ℕ
 pair_of w = (w.first, w.second)

@@ -1,5 +1,5 @@
 -- Records of waits: which waits a list of them holds, and whether it holds one twice.
-use Rattle.std.specs.Prelude.{◌≡◌, ℕ, ◌<◌, Bool, true, false, not, ◌&&◌, ◌||◌, List, [], ◌∷◌, take, Some, None, Option, slice_index_or}
+use Rattle.std.specs.Prelude.{◌≡◌, ℕ, ◌/◌, ◌%◌, ◌<◌, Bool, cond, ◌==◌, true, false, not, ◌&&◌, ◌||◌, List, [], ◌∷◌, take, Some, None, Option, slice_index_or}
 use Rattle.stores.specs.declared.wait.Wait.{Wait}
 use Rattle.stores.specs.Holding.{same_wait}
 
@@ -10,6 +10,10 @@ wait_of u v = record { first = u; second = v }
 -- whether the record is the wait from u to v
 abbrev pub is_wait : Wait → (u v : ℕ) → Bool
 is_wait w u v = same_wait w.first w.second u v
+
+-- the place on the shuttle t that the record leads to from u, if it does
+abbrev pub led_to : Wait → (u t : ℕ) → Option ℕ
+led_to w u t = cond (w.first == u && w.second / 4096 == t) (Some (w.second % 4096)) None
 
 -- whether the wait from u to v is among the records
 abbrev pub held_in : List Wait → (u v : ℕ) → Bool

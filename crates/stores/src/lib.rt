@@ -2,5 +2,6 @@
 #![tactic(auto)]
 
 pub mod loose;
+pub mod row;
 pub mod store;
 pub mod wait;

@@ -1,13 +1,16 @@
-use Rattle.std.proofs.Common.{sym, ap, ◌∙◌, subst, arith}
+use Rattle.std.proofs.Common.{take, ap, ◌∙◌, sym, subst, arith}
+use Rattle.std.specs.List.{slice_get}
 use Rattle.stores.specs.Holding.{Earliest}
 use Rattle.stores.specs.Loose.{loose_holding}
-use Rattle.ordered.specs.Ordered.{led_from}
-use Rattle.ordered.proofs.Looks.{earliest_from}
+use Rattle.ordered.specs.Ordered.{led_by}
+use Rattle.ordered.proofs.Looks.{earliest_at}
 use Rattle.ordered.proofs.ordered.OrderedStore.earliest.Goals as goal
 
 pub returns : goal.returns
 returns c =
     let s = c.args.self.now in
-    subst (Earliest (loose_holding s.lent.records.now s.lent.count) c.args.first c.args.t)
-    (sym (c.place_from.ensures ∙ ap (λ p. led_from s.lent.records.now s.lent.count p c.args.first c.args.t) c.seek.ensures))
-    (earliest_from s.lent.records.now s.lent.count c.args.first c.args.t (omega (arith, s.few)) s.rising (omega arith))
+    let u = c.args.first in
+    let t = c.args.t in
+    subst (Earliest (loose_holding s.row.records.now s.row.count) u t)
+    (sym (c.led_by.ensures ∙ ap (λ o. led_by o u t) (c.at.ensures ∙ ap (slice_get (take s.row.count s.row.records.now)) c.seek-place.ensures)))
+    (earliest_at (take s.row.count s.row.records.now) u t (omega arith) s.rising)

@@ -1,13 +1,12 @@
-use Rattle.std.proofs.Common.{sym, ◌∙◌, arith}
-use Rattle.std.proofs.lemmas.Bool.{or_from}
-use Rattle.stores.specs.Waits.{wait_of}
-use Rattle.stores.proofs.Records.{held_more, found_at}
+use Rattle.std.proofs.Common.{◌∙◌, ap, subst, sym, arith}
+use Rattle.std.specs.List.{position}
+use Rattle.stores.specs.Waits.{is_wait, Found}
+use Rattle.stores.proofs.Finding.{position_found}
 use Rattle.stores.proofs.loose.Loose.find.Goals as goal
 
-pub returns-then-is_wait : goal.returns-then-is_wait
-returns-then-is_wait c = found_at c.args.self.now.lent.records.now (wait_of 0 0) c.loop-i.i _ _ _ (omega arith) (omega arith) (sym c.if-is_wait.ensures)
-
-pub loop-i-preserved : goal.loop-i-preserved
-loop-i-preserved c =
-    held_more c.args.self.now.lent.records.now (wait_of 0 0) c.loop-i.i c.args.first c.args.second (omega arith)
-    ∙ or_from _ _ (sym c.if-is_wait.ensures) c.loop-i.invariant
+pub returns : goal.returns
+returns c =
+    let s = c.args.self.now.row in
+    let w = c.args.wait in
+    subst (Found s.records.now s.count w.first w.second) (sym (c.position_of.ensures ∙ ap (position (λ x. is_wait x w.first w.second)) c.used.ensures))
+    (position_found s.records.now s.count w.first w.second (omega arith))

@@ -1,31 +1,27 @@
-use Rattle.std.proofs.Common.{◌-◌, ◌∙◌, arith}
-use Rattle.std.proofs.lemmas.List.{length-set}
-use Rattle.stores.specs.Waits.{wait_of}
+use Rattle.std.proofs.Common.{ap, ◌-◌, ◌∙◌, subst, arith}
+use Rattle.std.proofs.lemmas.Bool.{lt-ltb}
+use Rattle.words.specs.Refusals.{unless}
+use Rattle.stores.specs.Waits.{wait_of, Found}
 use Rattle.stores.specs.Loose.{loose_holding}
-use Rattle.stores.proofs.Outcomes.{remove_passed, remove_done}
+use Rattle.stores.proofs.Outcomes.{remove_done}
 use Rattle.stores.proofs.Records.{removed_single, removed_holding}
 use Rattle.stores.proofs.loose.LooseStore.remove.Goals as goal
 
 pub invariant_of-self : goal.invariant_of-self
 invariant_of-self c =
     let s = c.args.self.now in
-    let found = c.in-Some.ensures in
-    simp (c.pull.ensures.count, c.pull.ensures.records, length-set) (record {
-      few = omega (arith, s.few);
-      once = removed_single s.lent.records.now (wait_of 0 0) s.lent.count (s.lent.count - 1) _ (omega (arith, found.1)) (omega (arith, s.few)) found.1 s.once;
+    let found = subst (Found s.row.records.now s.row.count c.args.wait.first c.args.wait.second) c.in_ok-place.ensures.ok_part c.find.ensures in
+    let pulled = c.swap_remove.ensures.answer ∙ ap (λ b. unless b 5) (lt-ltb _ _ found.1) in
+    simp (c.swap_remove.ensures.count, c.swap_remove.ensures.records, pulled) (record {
+      once = removed_single s.row.records.now (wait_of 0 0) s.row.count (s.row.count - 1) _ (omega (arith, found.1)) (omega (arith, s.row.few)) found.1 s.once;
     })
 
-pub returns-in-Some : goal.returns-in-Some
-returns-in-Some c =
+pub returns-clause-after : goal.returns-clause-after
+returns-clause-after c =
     let s = c.args.self.now in
-    let h = loose_holding s.lent.records.now s.lent.count in
-    let found = c.in-Some.ensures in
-    record {
-      answer = remove_passed h _ _ found.0;
-      after =
-          simp (c.pull.ensures.count, c.pull.ensures.records)
-          (removed_holding s.lent.records.now (wait_of 0 0) s.lent.count (s.lent.count - 1) _ (omega (arith, found.1)) (omega (arith, s.few)) found.1 s.once _ _ found.2
-          ∙ remove_done h _ _ found.0);
-      refused = tt;
-      records = (c.in-Some.place, found.1, found.2, c.pull.ensures.records);
-    }
+    let h = loose_holding s.row.records.now s.row.count in
+    let found = subst (Found s.row.records.now s.row.count c.args.wait.first c.args.wait.second) c.in_ok-place.ensures.ok_part c.find.ensures in
+    let pulled = c.swap_remove.ensures.answer ∙ ap (λ b. unless b 5) (lt-ltb _ _ found.1) in
+    simp (c.swap_remove.ensures.count, c.swap_remove.ensures.records, pulled)
+    (removed_holding s.row.records.now (wait_of 0 0) s.row.count (s.row.count - 1) _ (omega (arith, found.1)) (omega (arith, s.row.few)) found.1 s.once _ _ found.2
+    ∙ remove_done h _ _ found.0)

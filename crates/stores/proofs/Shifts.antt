@@ -1,12 +1,12 @@
--- Records that stand one place later or earlier: as what is put into a list, and taken out of it.
+-- Records of a row that are copied one place up or down: as what is put in, and taken out.
 use Rattle.std.proofs.Common.{◌≡◌, ℕ, ◌+◌, ◌-◌, ◌<◌, ◌≤◌, List, length, take, drop, set, arith}
-use Rattle.std.specs.List.{insert, remove}
+use Rattle.std.specs.List.{insert, remove, CopiedTo, SameBelow, SameFrom}
 use Rattle.std.proofs.lemmas.List.{places, length-set, length-append, length-drop, length-take-le, get_or-set_same, get_or-set_other, ext_get_or}
 use Rattle.std.proofs.lemmas.List.Edits.{length-insert, length-remove, get_or-remove_below, get_or-remove_above}
 use Rattle.std.proofs.lemmas.Bool.{cases_order, cases_lt}
 use Rattle.stores.specs.declared.wait.Wait.{Wait}
 use Rattle.stores.specs.Waits.{wait_of}
-use Rattle.ordered.specs.Ordered.{Opened, Closed, put_in, taken_out}
+use Rattle.stores.specs.Rows.{put_in, taken_out}
 
 -- records moved up, and one written into the gap
 
@@ -22,13 +22,14 @@ module _ (records : List Wait) (n p : ℕ) (w : Wait) (within : p ≤ n) (free :
       let s = put_in_used in
       omega (arith, length-append (insert (take n records) p w) (drop (n + 1) records), length-drop (n + 1) records)
 
-  pub opened_put : (new : List Wait) → length new ≡ length records → Opened records new p n → set new p w ≡ put_in records n p w
-  opened_put new size moved =
+  pub copied_up : (new : List Wait) → length new ≡ length records → CopiedTo records new p (p + 1) (n - p) × SameBelow records new (p + 1) × SameFrom records new (p + 1 + (n - p))
+      → set new p w ≡ put_in records n p w
+  copied_up new size moved =
       let s = length_put_in in
       let front = put_in_used in
       ext_get_or (wait_of 0 0) (set new p w) (put_in records n p w)
       (simp length-set (omega arith))
-      (λ k h. grind (arith, places, used, front, get_or-set_same, get_or-set_other, cases_lt k (n + 1), cases_order k p, moved.low k, moved.high (k - 1), moved.behind k))
+      (λ k h. grind (arith, places, used, front, get_or-set_same, get_or-set_other, cases_lt k (n + 1), cases_order k p, moved.0 k (wait_of 0 0), moved.1 k (wait_of 0 0), moved.2 k (wait_of 0 0)))
 
 -- records moved down
 
@@ -44,8 +45,9 @@ module _ (records : List Wait) (n p : ℕ) (within : p < n) (few : n ≤ length 
       let s = taken_out_used in
       omega (arith, length-append (remove (take n records) p) (drop (n - 1) records), length-drop (n - 1) records)
 
-  pub closed_taken : (new : List Wait) → length new ≡ length records → Closed records new p n → new ≡ taken_out records n p
-  closed_taken new size moved =
+  pub copied_down : (new : List Wait) → length new ≡ length records → CopiedTo records new (p + 1) p (n - (p + 1)) × SameBelow records new p × SameFrom records new (p + (n - (p + 1)))
+      → new ≡ taken_out records n p
+  copied_down new size moved =
       let s = length_taken_out in
       let front = taken_out_used in
       ext_get_or (wait_of 0 0) new (taken_out records n p)
@@ -59,7 +61,7 @@ module _ (records : List Wait) (n p : ℕ) (within : p < n) (few : n ≤ length 
         cases_lt k (n - 1),
         get_or-remove_below (take n records) p (wait_of 0 0) k,
         get_or-remove_above (take n records) p (wait_of 0 0) k,
-        moved.low k,
-        moved.high k,
-        moved.behind k,
+        moved.0 k (wait_of 0 0),
+        moved.1 k (wait_of 0 0),
+        moved.2 k (wait_of 0 0),
       ))
