@@ -1,8 +1,12 @@
 -- What the smallest value and the last place of a row of cells are, and how a loop finds them place by place.
-use Rattle.std.proofs.Common.{◌≡◌, ℕ, zero, suc, ◌+◌, ◌<◌, ◌≤◌, Bool, true, false, cond, ltb, leb, ◌⊎◌, Some, None, Option, sym, refl, ap, ◌∙◌, inl, inr, ⊎_elim, add-one, arith}
+use Rattle.std.proofs.Common.{◌≡◌, ℕ, zero, suc, ◌+◌, ◌<◌, ◌≤◌, min, List, [], ◌∷◌, ◌++◌, length, get_or, take, drop, take_all, Bool, true, false, cond, ltb, leb, ◌⊎◌, Some, None, Option, sym, refl, ap, ◌∙◌, inl, inr, ⊎_elim, add-one, arith}
 use Rattle.std.proofs.lemmas.Bool.Decides.{nat_tests}
-use Rattle.std.proofs.lemmas.Bool.{cases_lt, cases_Bool, le-leb, lt-leb, leb-true}
+use Rattle.std.proofs.lemmas.Bool.{both_ways, cases_lt, cases_Bool, le-leb, lt-leb, leb-true}
 use Rattle.order.specs.Cells.{Smallest, Greatest}
+use Rattle.std.specs.Option.{MatchOption}
+use Rattle.std.specs.List.{filter_map, cons_option, fold, reduce}
+use Rattle.std.proofs.lemmas.List.{drop_all, drop-append-le, length-take-le, take_more}
+use Rattle.tables.specs.Plain.{decoded}
 use Rattle.tables.specs.Meaning.{least_of, last_of, smaller, at_most}
 
 -- nothing lies before the first place
@@ -159,3 +163,86 @@ least_like f g i (suc n) same = rw (same n (omega arith), least_like f g i n (λ
 pub last_like : (f g : ℕ → Option ℕ) (j n : ℕ) → ((c : ℕ) → c < n → f c ≡ g c) → last_of f j n ≡ last_of g j n
 last_like f g j zero same = refl
 last_like f g j (suc n) same = rw (same n (omega arith), last_like f g j n (λ c l. same c (omega arith)))
+
+-- the library's least of a row of numbers, and its last
+
+min_smaller : (x y : ℕ) → ◌≡◌ {A = Option ℕ} (Some (min x y)) (smaller (Some x) (Some y))
+min_smaller x y = grind (arith, nat_tests)
+
+smaller_none : (a : Option ℕ) → smaller a None ≡ a
+smaller_none None = refl
+smaller_none (Some x) = refl
+
+smaller_more : (x y : ℕ) (r : Option ℕ) → smaller (Some (min x y)) r ≡ smaller (Some x) (smaller (Some y) r)
+smaller_more x y None = min_smaller x y
+smaller_more x y (Some r) = grind (arith, nat_tests)
+
+reduce_first : (x : ℕ) (xs : List ℕ) → ◌≡◌ {A = Option ℕ} (Some (fold min x xs)) (smaller (Some x) (reduce min xs))
+reduce_first x [] = refl
+reduce_first x (y ∷ ys) = reduce_first (min x y) ys ∙ smaller_more x y (reduce min ys) ∙ ap (smaller (Some x)) (sym (reduce_first y ys))
+
+reduce_more : (o : Option ℕ) (xs : List ℕ) → reduce min (cons_option o xs) ≡ smaller o (reduce min xs)
+reduce_more None xs = refl
+reduce_more (Some x) xs = reduce_first x xs
+
+smaller_assoc : (a b c : Option ℕ) → smaller a (smaller b c) ≡ smaller (smaller a b) c
+smaller_assoc None b c = refl
+smaller_assoc (Some x) None c = refl
+smaller_assoc (Some x) (Some y) None = sym (smaller_none (smaller (Some x) (Some y)))
+smaller_assoc (Some x) (Some y) (Some z) = grind (arith, nat_tests)
+
+-- one number more at the end
+reduce_push : (xs : List ℕ) (v : ℕ) → reduce min (filter_map decoded (xs ++ v ∷ [])) ≡ smaller (reduce min (filter_map decoded xs)) (decoded v)
+reduce_push [] v = reduce_more (decoded v) [] ∙ smaller_none (decoded v)
+reduce_push (x ∷ xs) v =
+    reduce_more (decoded x) (filter_map decoded (xs ++ v ∷ []))
+    ∙ ap (smaller (decoded x)) (reduce_push xs v)
+    ∙ smaller_assoc (decoded x) (reduce min (filter_map decoded xs)) (decoded v)
+    ∙ ap (λ a. smaller a (decoded v)) (sym (reduce_more (decoded x) (filter_map decoded xs)))
+
+least_front : (row : List ℕ) (i n : ℕ) → n ≤ length row → reduce min (filter_map decoded (drop i (take n row))) ≡ least_of (λ p. decoded (get_or row p 0)) i n
+least_front row i zero few = ap (λ l. reduce min (filter_map decoded l)) (drop_all i (take {A = ℕ} 0 row) (omega arith))
+least_front row i (suc n) few =
+    let f : ℕ → Option ℕ = λ p. decoded (get_or row p 0) in
+    let g : List ℕ → Option ℕ = λ l. reduce min (filter_map decoded l) in
+    let size = length-take-le n row (omega arith) in
+    let one_more : take (suc n) row ≡ take n row ++ get_or row n 0 ∷ [] = ap (λ m. take m row) (sym (add-one n)) ∙ take_more row n 0 (omega arith) in
+    ⊎_elim
+    (λ (late : n < i). ap g (drop_all i (take (suc n) row) (omega (arith, length-take-le (suc n) row few))) ∙ sym (least_none f i (suc n) (omega arith)))
+    (λ (more : i ≤ n).
+    ap (λ l. g (drop i l)) one_more
+    ∙ ap g (drop-append-le i (take n row) (get_or row n 0 ∷ []) (omega (arith, size)))
+    ∙ reduce_push (drop i (take n row)) (get_or row n 0)
+    ∙ ap (λ o. smaller o (f n)) (least_front row i n (omega arith))
+    ∙ sym (rw (le-leb i n more) refl))
+    (cases_lt n i)
+
+pub least_of_row : (row : List ℕ) (f : ℕ → Option ℕ) (i n : ℕ) → length row ≡ n → ((p : ℕ) → p < n → decoded (get_or row p 0) ≡ f p) → reduce min (filter_map decoded (drop i row)) ≡ least_of f i n
+least_of_row row f i n size same =
+    ap (λ l. reduce min (filter_map decoded (drop i l))) (sym (take_all n row (omega arith)))
+    ∙ least_front row i n (omega arith)
+    ∙ least_like (λ p. decoded (get_or row p 0)) f i n same
+
+pub last_of_row : (row : List ℕ) (f : ℕ → Option ℕ) (j n : ℕ) (o : Option ℕ) → length row ≡ n → ((p : ℕ) → p < n → decoded (get_or row p 0) ≡ f p)
+    → MatchOption o ((p : ℕ) → p < length row → at_most j (decoded (get_or row p 0)) ≡ false)
+    (λ p. (p < length row) × (at_most j (decoded (get_or row p 0)) ≡ true) × ((q : ℕ) → p < q → q < length row → at_most j (decoded (get_or row q 0)) ≡ false))
+    → o ≡ last_of f j n
+last_of_row row f j n o size same found = last_only n f j o (greatest o found)
+  where
+    too_high : (p b : ℕ) → p < n → f p ≡ Some b → b ≤ j → at_most j (decoded (get_or row p 0)) ≡ false → ⊥
+    too_high p b l e few high = let e' = same p l ∙ e in let low = ap (at_most j) (sym e') ∙ high in grind (arith, nat_tests)
+
+    value_at : (p : ℕ) → p < n → at_most j (decoded (get_or row p 0)) ≡ true → (b : ℕ) × (f p ≡ Some b) × (b ≤ j)
+    value_at p l low = go (decoded (get_or row p 0)) refl
+      where
+        go : (v : Option ℕ) → decoded (get_or row p 0) ≡ v → (b : ℕ) × (f p ≡ Some b) × (b ≤ j)
+        go None e = let bad = ap (at_most j) (sym e) ∙ low in absurd (both_ways _ refl bad)
+        go (Some b) e = (b, sym (same p l) ∙ e, leb-true b j (ap (at_most j) (sym e) ∙ low))
+
+    greatest : (o : Option ℕ) → MatchOption o ((p : ℕ) → p < length row → at_most j (decoded (get_or row p 0)) ≡ false)
+        (λ p. (p < length row) × (at_most j (decoded (get_or row p 0)) ≡ true) × ((q : ℕ) → p < q → q < length row → at_most j (decoded (get_or row q 0)) ≡ false))
+        → Greatest n f j o
+    greatest None high = λ a b l e few. too_high a b l e few (high a (omega arith))
+    greatest (Some p) at =
+        let l : p < n = omega (arith, at.0) in
+        ((l, value_at p l at.1), λ a b la e few. ⊎_elim (λ (later : p < a). absurd (too_high a b la e few (at.2 a later (omega arith)))) (λ (up : a ≤ p). up) (cases_lt p a))

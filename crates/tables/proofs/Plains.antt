@@ -86,19 +86,17 @@ pub record Sound (k n u m : ℕ) (cs : List ℕ) : Type 0 where
   pub tidy : (p : ℕ) → p < u → tidy_at k n p (get_or cs p 0) ≡ true
   pub counted : m ≡ filled_of k n (plain_cell k n cs)
 
-pub sound_of : (x : Plain) → Sound x.lent.shuttles x.lent.moves x.lent.used x.lent.filled x.lent.cells.now
-sound_of x = record { small = x.small; within = x.within; whole = x.whole; tidy = x.tidy; counted = x.counted }
+pub sound_of : (x : Plain) → Sound x.lent.aisle.shuttles x.lent.aisle.moves x.lent.used x.lent.filled x.lent.cells.now
+sound_of x = record { small = x.lent.small; within = x.lent.within; whole = x.whole; tidy = x.tidy; counted = x.counted }
 
--- the same, as it is owed after a change
+-- the same, as it is owed after a change; the sizes and the length of the buffer are a fact of what is lent
 pub owed : {k n u m : ℕ} {cs : List ℕ} → Sound k n u m cs →
     record {
-      small : Small k n;
-      within : u ≤ length cs;
       whole : 1 < k → u ≡ k * k * n;
       tidy : (p : ℕ) → p < u → tidy_at k n p (get_or cs p 0) ≡ true;
       counted : m ≡ filled_of k n (plain_cell k n cs);
     }
-owed h = record { small = h.small; within = h.within; whole = h.whole; tidy = h.tidy; counted = h.counted }
+owed h = record { whole = h.whole; tidy = h.tidy; counted = h.counted }
 
 module _ {k n u m : ℕ} {cs : List ℕ} (sound : Sound k n u m cs) where
   -- the count stays far below what a 32-bit number can tell

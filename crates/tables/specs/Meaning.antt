@@ -47,8 +47,8 @@ Small k n = (0 < k) × (k ≤ 16) × (0 < n) × (n ≤ 4096)
 
 -- the sizes that a table tells
 pub record Sized (m : Meaning) (r : Sizes) : Type 0 where
-  pub shuttles : r.shuttles ≡ m.shuttles
-  pub moves : r.moves ≡ m.moves
+  pub shuttles : r.aisle.shuttles ≡ m.shuttles
+  pub moves : r.aisle.moves ≡ m.moves
   pub capacity : r.capacity ≡ m.capacity
   pub filled_cells : r.filled ≡ filled m
 

@@ -29,9 +29,13 @@ plain_meaning k n cs = full_meaning k n (plain_cell k n cs)
 abbrev pub tidy_at : (k n p v : ℕ) → Bool
 tidy_at k n p v = cond (v == 65535) true (cond (p / n / k == p / n % k) false (nat_lt v n))
 
+-- whether a buffer of l numbers serves a table of k shuttles with n moves that needs so many
+abbrev pub buffer_check : (k n needed l : ℕ) → Result Unit Refusal
+buffer_check k n needed l = then (sizable k n) (unless (nat_le needed l) 9)
+
 -- whether a buffer of l numbers serves k shuttles with n moves
 unfoldable pub plain_check : (k n l : ℕ) → Result Unit Refusal
-plain_check k n l = then (sizable k n) (unless (nat_le (k * k * n) l) 9)
+plain_check k n l = buffer_check k n (k * k * n) l
 
 -- a table that is made over a buffer of l numbers: it has one shuttle with one move, and so no cell, where the check refuses
 abbrev pub plain_made : (k n l : ℕ) → Meaning

@@ -5,15 +5,17 @@ ghost use Rattle.tables.specs.Meaning.{one, smaller as smaller_of, at_most};
 ghost use Rattle.tables.specs.Answers.{allowed, valued, sizable};
 
 use words::Refusal;
+use words::aisles::Aisle;
 
-// Whether a table can have k shuttles with n moves each.
-pub fn check_sizes(k: u16, n: u16) -> Result<(), Refusal>
-    ensures { result ≡ sizable k n }
+// Whether a table can have these sizes.
+#[tactic(auto, unfolding(crate::specs::Answers::sizable))]
+pub fn check_sizes(aisle: Aisle) -> Result<(), Refusal>
+    ensures { result ≡ sizable aisle.shuttles aisle.moves }
 {
-    if k == 0 || k > 16 || n == 0 || n > 4096 {
-        Err(Refusal::BadSize)
-    } else {
+    if (1..=16).contains(&aisle.shuttles) && (1..=4096).contains(&aisle.moves) {
         Ok(())
+    } else {
+        Err(Refusal::BadSize)
     }
 }
 
@@ -28,22 +30,23 @@ pub fn check_length(needed: usize, given: usize) -> Result<(), Refusal>
     }
 }
 
-// Whether a shuttle has a place j.
-pub fn check_value(n: u16, j: u16) -> Result<(), Refusal>
-    ensures { result ≡ valued n j }
+// Whether a shuttle of the aisle has a place j.
+#[tactic(auto, unfolding(crate::specs::Answers::valued))]
+pub fn check_value(aisle: Aisle, j: u16) -> Result<(), Refusal>
+    ensures { result ≡ valued aisle.moves j }
 {
-    if j >= n {
+    if j >= aisle.moves {
         Err(Refusal::NoSuchPlace)
     } else {
         Ok(())
     }
 }
 
-// Whether s and t are two different shuttles of k.
-fn check_pair(k: u16, s: u16, t: u16) -> Result<(), Refusal>
-    ensures { result ≡ then (unless (nat_lt s k) 1) (then (unless (nat_lt t k) 1) (refused_if (s == t) 3)) }
+// Whether s and t are two different shuttles of the aisle.
+fn check_pair(aisle: Aisle, s: u16, t: u16) -> Result<(), Refusal>
+    ensures { result ≡ then (unless (nat_lt s aisle.shuttles) 1) (then (unless (nat_lt t aisle.shuttles) 1) (refused_if (s == t) 3)) }
 {
-    if s >= k || t >= k {
+    if s >= aisle.shuttles || t >= aisle.shuttles {
         Err(Refusal::NoSuchShuttle)
     } else if s == t {
         Err(Refusal::SameShuttle)
@@ -52,12 +55,12 @@ fn check_pair(k: u16, s: u16, t: u16) -> Result<(), Refusal>
     }
 }
 
-// Whether the cell (s, t, i) is one of k shuttles with n moves each.
-pub fn check_cell(k: u16, n: u16, s: u16, t: u16, i: u16) -> Result<(), Refusal>
-    ensures { result ≡ allowed k n s t i }
+// Whether the cell (s, t, i) is one of the aisle.
+pub fn check_cell(aisle: Aisle, s: u16, t: u16, i: u16) -> Result<(), Refusal>
+    ensures { result ≡ allowed aisle.shuttles aisle.moves s t i }
 {
-    check_pair(k, s, t)?;
-    check_value(n, i)
+    check_pair(aisle, s, t)?;
+    check_value(aisle, i)
 }
 
 // The smaller of two values, where none is greater than each number.
@@ -65,9 +68,8 @@ pub fn smaller(a: Option<u16>, b: Option<u16>) -> Option<u16>
     ensures { result ≡ smaller_of a b }
 {
     match (a, b) {
-        (Some(x), Some(y)) => { if y < x { Some(y) } else { Some(x) } }
-        (Some(x), None) => Some(x),
-        (None, y) => y,
+        (Some(x), Some(y)) => Some(x.min(y)),
+        _ => a.or(b),
     }
 }
 
@@ -75,18 +77,12 @@ pub fn smaller(a: Option<u16>, b: Option<u16>) -> Option<u16>
 pub fn at_most(j: u16, a: Option<u16>) -> bool
     ensures { result ≡ at_most j a }
 {
-    match a {
-        Some(x) => x <= j,
-        None => false,
-    }
+    a.is_some_and(|x| x <= j)
 }
 
 // What a cell adds to the count of the filled ones.
 pub fn count_of(a: Option<u16>) -> u32
     ensures { result ≡ one a }
 {
-    match a {
-        Some(_) => 1,
-        None => 0,
-    }
+    u32::from(a.is_some())
 }

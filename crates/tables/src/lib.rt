@@ -2,5 +2,7 @@
 #![tactic(auto)]
 
 pub mod checks;
+pub mod lent;
+pub mod numbers;
 pub mod plain;
 pub mod table;

@@ -5,12 +5,12 @@ ghost use Rattle.tables.specs.Meaning.{Meaning, Lawful, Sized, wiped};
 ghost use Rattle.tables.specs.Answers.{cell_answer, put_answer, put_after, clear_answer, clear_after, least_answer, last_answer};
 
 use words::Refusal;
+use words::aisles::Aisle;
 
-// A table's sizes: its shuttles, the moves of each, how many cells it can fill, and how many are filled.
-#[derive(Clone, Copy)]
+// A table's sizes: its aisle, how many cells it can fill, and how many are filled.
+#[derive(Clone, Copy, PartialEq, Eq, Debug)]
 pub struct Sizes {
-    pub shuttles: u16,
-    pub moves: u16,
+    pub aisle: Aisle,
     pub capacity: u32,
     pub filled: u32,
 }

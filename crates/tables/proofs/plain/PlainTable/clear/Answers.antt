@@ -17,7 +17,7 @@ invariant_of-self c =
     let h = c.write.ensures in
     let at = c.place-p.ensures.at in
     let ok = c.in_ok-check_cell.ensures in
-    simp (h.same.0, h.same.1, h.same.2, h.numbers, at) (owed (write_sound (sound_of c.args.self.now) c.args.s c.args.t c.args.i ok None tt _ (simp at at h.filled)))
+    simp (h.same.0, h.same.1, h.numbers, at) (owed (write_sound (sound_of c.args.self.now) c.args.s c.args.t c.args.i ok None tt _ (simp at at h.filled)))
 
 pub returns : goal.returns
 returns c =
@@ -26,7 +26,7 @@ returns c =
     let ok = c.in_ok-check_cell.ensures in
     record {
       answer = ok;
-      after = simp (h.same.0, h.same.1, h.numbers, at) (clear_means (sound_of c.args.self.now) c.args.s c.args.t c.args.i ok);
+      after = simp (h.same.0, h.numbers, at) (clear_means (sound_of c.args.self.now) c.args.s c.args.t c.args.i ok);
       refused = tt;
       numbers = simp at at h.numbers;
     }

@@ -19,7 +19,7 @@ invariant_of-self c =
     let at = c.place-p.ensures.at in
     let ok = c.in_ok-check_cell.ensures in
     let fits = c.in_ok-check_value.ensures in
-    simp (h.same.0, h.same.1, h.same.2, h.numbers, at) (owed (write_sound (sound_of c.args.self.now) c.args.s c.args.t c.args.i ok (Some c.args.j) (value_from _ _ (sym fits)) _ (simp at at h.filled)))
+    simp (h.same.0, h.same.1, h.numbers, at) (owed (write_sound (sound_of c.args.self.now) c.args.s c.args.t c.args.i ok (Some c.args.j) (value_from _ _ (sym fits)) _ (simp at at h.filled)))
 
 pub returns : goal.returns
 returns c =
@@ -30,7 +30,7 @@ returns c =
     let fits = c.in_ok-check_value.ensures in
     record {
       answer = put_done sound c.args.s c.args.t c.args.i ok c.args.j fits;
-      after = simp (h.same.0, h.same.1, h.numbers, at) (put_means sound c.args.s c.args.t c.args.i ok c.args.j fits);
+      after = simp (h.same.0, h.numbers, at) (put_means sound c.args.s c.args.t c.args.i ok c.args.j fits);
       refused = tt;
       numbers = simp at at h.numbers;
     }
