@@ -66,21 +66,19 @@ pub record Sound (k n p u m : ℕ) (cs : List ℕ) : Type 0 where
   pub trees : (q : ℕ) → q * (2 * p) < u → tree_sound (places k n q) p (stretch (2 * p) cs q) ≡ true
   pub counted : m ≡ filled_of k n (full_cell k n p cs)
 
-pub sound_of : (x : FullTree) → Sound x.lent.shuttles x.lent.moves x.lent.leaves x.lent.used x.lent.filled x.lent.cells.now
-sound_of x = record { small = x.small; wide = x.wide; within = x.within; some = x.some; whole = x.whole; trees = x.trees; counted = x.counted }
+pub sound_of : (x : FullTree) → Sound x.lent.aisle.shuttles x.lent.aisle.moves x.leaves x.lent.used x.lent.filled x.lent.cells.now
+sound_of x = record { small = x.lent.small; wide = x.wide; within = x.lent.within; some = x.some; whole = x.whole; trees = x.trees; counted = x.counted }
 
--- the same, as it is owed after a change
+-- the same, as it is owed after a change; the sizes and the length of the buffer are a fact of what is lent
 pub owed : {k n p u m : ℕ} {cs : List ℕ} → Sound k n p u m cs →
     record {
-      small : Small k n;
       wide : p ≡ leaves_of n;
-      within : u ≤ length cs;
       some : 1 < k → 0 < u;
       whole : 0 < u → u ≡ k * k * (2 * p);
       trees : (q : ℕ) → q * (2 * p) < u → tree_sound (places k n q) p (stretch (2 * p) cs q) ≡ true;
       counted : m ≡ filled_of k n (full_cell k n p cs);
     }
-owed h = record { small = h.small; wide = h.wide; within = h.within; some = h.some; whole = h.whole; trees = h.trees; counted = h.counted }
+owed h = record { wide = h.wide; some = h.some; whole = h.whole; trees = h.trees; counted = h.counted }
 
 fit_encoded : (n i : ℕ) (v : Option ℕ) → i < n → Fit n v → (encoded v ≡ 65535) ⊎ ((i < n) × (encoded v < n))
 fit_encoded n i None l fit = inl refl
@@ -312,3 +310,8 @@ module _ (k n : ℕ) (cs : List ℕ) where
       tree_meaning (if_done r 1 k) (if_done r 1 n) (if_done r 1 (leaves_of n)) (wiped_front (if_done r 0 (numbers_of k n)) cs) ≡ if_done r (full_meaning 1 1 (λ s t i. None)) (full_meaning k n (λ s t i. None))
   made_means (Ok u) e = let h = check_passed k n (length cs) (sym e) in wiped_means k n (leaves_of n) (numbers_of k n) cs h.0 refl h.1 (λ _. used_some h.0) (λ _. refl)
   made_means (Err x) e = wiped_means 1 1 1 0 cs (omega arith, omega arith, omega arith, omega arith) (sym one_leaf) (omega arith) (λ l. absurd (omega arith)) (λ l. absurd (omega arith))
+
+-- the leaves of the aisle that a made table has
+pub made_leaves : (r : Result Unit Refusal) (n : ℕ) → leaves_of (if_done r 1 n) ≡ if_done r 1 (leaves_of n)
+made_leaves (Ok u) n = refl
+made_leaves (Err e) n = one_leaf

@@ -1,10 +1,11 @@
 -- What the numbers of a full tree mean: the buffer has a stretch of 2 p numbers for each pair of shuttles, a tree over p leaves.
-use Rattle.std.specs.Prelude.{ℕ, ◌+◌, ◌*◌, ◌/◌, ◌%◌, ◌<◌, cond, List, ◌++◌, take, drop, is_ok, None, Option, Result, ◌==◌, ◌≢◌, nat_le}
+use Rattle.std.specs.Prelude.{ℕ, ◌+◌, ◌*◌, ◌/◌, ◌%◌, ◌<◌, cond, List, ◌++◌, take, drop, is_ok, None, Option, Result, ◌==◌, ◌≢◌}
 use Rattle.std.specs.List.{between}
 use Rattle.words.specs.declared.Refusal.{Refusal}
-use Rattle.words.specs.Refusals.{then, unless, if_done}
+use Rattle.words.specs.Refusals.{if_done}
 use Rattle.tables.specs.Meaning.{Meaning, full_meaning}
-use Rattle.tables.specs.Answers.{allowed, sizable}
+use Rattle.tables.specs.Answers.{allowed}
+use Rattle.tables.specs.Plain.{buffer_check}
 use Rattle.fulltree.specs.Leaves.{leaves_of}
 use Rattle.fulltree.specs.Tree.{leaf, stored}
 
@@ -45,7 +46,7 @@ numbers_of k n = k * k * (2 * leaves_of n)
 
 -- whether a buffer of l numbers serves k shuttles with n moves
 unfoldable pub full_check : (k n l : ℕ) → Result Unit Refusal
-full_check k n l = then (sizable k n) (unless (nat_le (numbers_of k n) l) 9)
+full_check k n l = buffer_check k n (numbers_of k n) l
 
 -- a table that is made over a buffer of l numbers: it has one shuttle with one move, and so no cell, where the check refuses
 abbrev pub full_made : (k n l : ℕ) → Meaning

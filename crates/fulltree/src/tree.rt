@@ -1,30 +1,10 @@
 // One tree of least values over p leaves, in a row of 2 p numbers: the leaf of the place i is the number p + i, and the number q with 0 < q < p is the smaller of the numbers 2 q and 2 q + 1.
 ghost use Rattle.std.specs.Prelude.{◌≡◌, ◌+◌, ◌*◌, ◌/◌, ◌<◌, length};
 ghost use Rattle.tables.specs.Meaning.{least_of, last_of};
-ghost use Rattle.tables.specs.Plain.{decoded, encoded};
 ghost use Rattle.fulltree.specs.Tree.{node, leaf, lower, Tree, stored, best_with_right, way_down};
 
 use tables::checks::smaller;
-
-// Stands for an empty place; it is greater than each place, so the smaller of two numbers stands for the smaller of what they stand for.
-const EMPTY: u16 = 65535;
-
-// What a number stands for.
-pub(crate) fn decode(number: u16) -> Option<u16>
-    ensures { result ≡ decoded number }
-{
-    if number == EMPTY { None } else { Some(number) }
-}
-
-// The number that stands for what a place holds.
-pub(crate) fn encode(value: Option<u16>) -> u16
-    ensures { result ≡ encoded value }
-{
-    match value {
-        Some(j) => j,
-        None => EMPTY,
-    }
-}
+use tables::numbers::decode;
 
 // Where the leaf of the place i is.
 pub(crate) fn leaf_at(leaves: usize, i: u16) -> usize

@@ -1,15 +1,25 @@
-use Rattle.std.proofs.Common.{refl}
-use Rattle.fulltree.proofs.Fulls.{owed, made_sound, made_means}
+use Rattle.std.proofs.Common.{refl, ap, ◌∙◌}
+use Rattle.fulltree.specs.Full.{full_check}
+use Rattle.fulltree.specs.Leaves.{leaves_of}
+use Rattle.fulltree.proofs.Fulls.{owed, made_sound, made_means, made_leaves}
 use Rattle.fulltree.proofs.full.FullTree.make.Goals as goal
 
 pub invariant_of-result : goal.invariant_of-result
-invariant_of-result c = let h = c.over.ensures in simp (h.shuttles, h.moves, h.leaves, h.used, h.filled, h.numbers) (owed (made_sound _ _ c.args.cells.now _ refl))
+unfolding full_check
+invariant_of-result c =
+    let h = c.over-lent.ensures in
+    let a = c.args.aisle in
+    let leaves = c.leaves_for-leaves.ensures.is ∙ ap leaves_of h.moves ∙ made_leaves _ a.moves in
+    simp (leaves, h.shuttles, h.moves, h.used, h.filled, h.numbers, c.numbers_of.ensures) (owed (made_sound a.shuttles a.moves c.args.cells.now _ refl))
 
 pub returns : goal.returns
+unfolding full_check
 returns c =
-    let h = c.over.ensures in
+    let h = c.over-lent.ensures in
+    let a = c.args.aisle in
+    let leaves = c.leaves_for-leaves.ensures.is ∙ ap leaves_of h.moves ∙ made_leaves _ a.moves in
     record {
-      means = simp (h.shuttles, h.moves, h.leaves, h.numbers) (made_means c.args.shuttles c.args.moves c.args.cells.now _ refl);
-      used = h.used;
-      numbers = h.numbers;
+      means = simp (leaves, h.shuttles, h.moves, h.numbers, c.numbers_of.ensures) (made_means a.shuttles a.moves c.args.cells.now _ refl);
+      used = simp c.numbers_of.ensures at h.used;
+      numbers = simp c.numbers_of.ensures at h.numbers;
     }

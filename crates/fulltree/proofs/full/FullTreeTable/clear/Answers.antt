@@ -18,7 +18,7 @@ pub invariant_of-self : goal.invariant_of-self
 invariant_of-self c =
     let h = c.write.ensures in
     let ok = c.in_ok-check_cell.ensures in
-    simp (h.same.0, h.same.1, h.same.2, h.same.3, h.numbers) (owed (write_sound (sound_of c.args.self.now) _ _ _ ok None tt _ h.filled))
+    simp (h.same.0, h.same.1, h.numbers) (owed (write_sound (sound_of c.args.self.now) _ _ _ ok None tt _ h.filled))
 
 pub returns : goal.returns
 returns c =
@@ -26,7 +26,7 @@ returns c =
     let ok = c.in_ok-check_cell.ensures in
     record {
       answer = ok;
-      after = simp (h.same.0, h.same.1, h.same.2, h.numbers) (clear_means (sound_of c.args.self.now) _ _ _ ok);
+      after = simp (h.same.0, h.numbers) (clear_means (sound_of c.args.self.now) _ _ _ ok);
       refused = tt;
       numbers = h.numbers;
     }

@@ -20,7 +20,7 @@ invariant_of-self c =
     let h = c.write.ensures in
     let ok = c.in_ok-check_cell.ensures in
     let fits = c.in_ok-check_value.ensures in
-    simp (h.same.0, h.same.1, h.same.2, h.same.3, h.numbers) (owed (write_sound (sound_of c.args.self.now) _ _ _ ok (Some c.args.j) (value_from _ _ (sym fits)) _ h.filled))
+    simp (h.same.0, h.same.1, h.numbers) (owed (write_sound (sound_of c.args.self.now) _ _ _ ok (Some c.args.j) (value_from _ _ (sym fits)) _ h.filled))
 
 pub returns : goal.returns
 returns c =
@@ -30,7 +30,7 @@ returns c =
     let fits = c.in_ok-check_value.ensures in
     record {
       answer = put_done sound _ _ _ ok c.args.j fits;
-      after = simp (h.same.0, h.same.1, h.same.2, h.numbers) (put_means sound _ _ _ ok c.args.j fits);
+      after = simp (h.same.0, h.numbers) (put_means sound _ _ _ ok c.args.j fits);
       refused = tt;
       numbers = h.numbers;
     }
