@@ -12,6 +12,7 @@ use Rattle.tables.proofs.Allowed.{allowed_or, allowed_at, sizable_small}
 use Rattle.tables.proofs.Counting.{same_or, set_cell, filled_set, filled_ge, filled_none}
 use Rattle.tables.proofs.Extremes.{least_like, last_like}
 use Rattle.sparse.specs.declared.record.Record.{Record}
+use Rattle.sparse.specs.declared.sparse.Forest.{Forest}
 use Rattle.sparse.specs.declared.sparse.SparseTree.{SparseTree}
 use Rattle.sparse.specs.Form.{held_in, tree_formed, chained, trees, tree_number, Good, Changed}
 use Rattle.sparse.specs.Sparse.{sparse_cell, sparse_meaning, sparse_used}
@@ -25,26 +26,27 @@ pub record Sound (k n m : ℕ) (head : Option ℕ) (roots : List (Option ℕ)) (
   pub good : Good n head m roots xs
   pub counted : m ≡ filled_of k n (sparse_cell k n roots xs)
 
-pub sound_of : (x : SparseTree) → Sound x.lent.shuttles x.lent.moves x.lent.filled x.lent.head x.lent.roots x.lent.records.now
-sound_of x = record { small = x.small; few = x.few; good = good_from _ _ _ x.lent.roots _ x.within x.formed x.spare; counted = x.counted }
+pub good_of : (x : Forest) → Good x.aisle.moves x.head x.filled x.roots x.records.now
+good_of x = good_from _ _ _ x.roots _ x.within x.formed x.spare
 
--- the same, as it is owed after a change
-pub owed : {k n m : ℕ} {head : Option ℕ} {roots : List (Option ℕ)} {xs : List Record} → Sound k n m head roots xs →
+pub sound_of : (x : SparseTree) → Sound x.forest.aisle.shuttles x.forest.aisle.moves x.forest.filled x.forest.head x.forest.roots x.forest.records.now
+sound_of x = record { small = x.forest.small; few = x.forest.few; good = good_of x.forest; counted = x.counted }
+
+-- what the trees owe after a change
+pub owed : {k n m : ℕ} {head : Option ℕ} {roots : List (Option ℕ)} {xs : List Record} → Small k n → length xs ≤ 65535 → Good n head m roots xs →
     record {
       small : Small k n;
       few : length xs ≤ 65535;
       formed : (g : ℕ) → g < trees → tree_formed n roots xs g ≡ true;
       within : m ≤ length xs;
       spare : chained (length xs - m) xs head ≡ true;
-      counted : m ≡ filled_of k n (sparse_cell k n roots xs);
     }
-owed {k} {n} {m} {head} {roots} {xs} h = record {
-  small = h.small;
-  few = h.few;
-  formed = trees_tested n m head roots xs h.good;
-  within = spare_few n m head roots xs h.good;
-  spare = spare_tested n m head roots xs h.good;
-  counted = h.counted;
+owed {k} {n} {m} {head} {roots} {xs} small few good = record {
+  small = small;
+  few = few;
+  formed = trees_tested n m head roots xs good;
+  within = spare_few n m head roots xs good;
+  spare = spare_tested n m head roots xs good;
 }
 
 pub number_few : (k n s t i : ℕ) → Small k n → passed ≡ allowed k n s t i → tree_number s t < trees
@@ -163,8 +165,8 @@ module _ (k n : ℕ) (head : Option ℕ) (roots : List (Option ℕ)) (xs : List 
   pub empty_cells : sparse_cell k n roots xs ≡ (λ s t i. None)
   empty_cells = fun_ext (λ s. fun_ext (λ t. fun_ext (λ i. ⊎_elim (cell_none k n roots xs s t i) (λ e. cell_at k n roots xs s t i e ∙ none (tree_number s t) i) (allowed_or k n s t i))))
 
-  pub empty_sound : (m : ℕ) → m ≡ 0 → Small k n → length xs ≤ 65535 → Good n head 0 roots xs → Sound k n m head roots xs
-  empty_sound m none_filled small few good = subst (λ a. Sound k n a head roots xs) (sym none_filled) (record { small = small; few = few; good = good; counted = sym (ap (filled_of k n) empty_cells ∙ filled_none k n) })
+  pub empty_sound : (m : ℕ) → m ≡ 0 → Small k n → length xs ≤ 65535 → Good n head m roots xs → Sound k n m head roots xs
+  empty_sound m none_filled small few good = record { small = small; few = few; good = good; counted = none_filled ∙ sym (ap (filled_of k n) empty_cells ∙ filled_none k n) }
 
   pub empty_means : (k₀ n₀ l : ℕ) → k ≡ k₀ → n ≡ n₀ → length xs ≡ l → sparse_meaning k n roots xs ≡ record { shuttles = k₀; moves = n₀; capacity = l; cell = λ s t i. None }
   empty_means k₀ n₀ l shuttles moves len = λ z. record { shuttles = shuttles z; moves = moves z; capacity = len z; cell = empty_cells z }

@@ -23,7 +23,7 @@ pub enum Record {
     Used(Node),
 }
 
-// Which child's entry stands above the other's: its record and that entry.
+// Which child's entry stands above the other's: its record and that entry. Each case is an arm of one match, which an option of a side would take twice.
 #[derive(Clone, Copy)]
 pub enum Choice {
     Neither,

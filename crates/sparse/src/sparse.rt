@@ -14,6 +14,7 @@ use crate::tree::{find, insert, last, least, remove};
 use tables::checks::{check_cell, check_sizes, check_value};
 use tables::table::{Sizes, Table};
 use words::Refusal;
+use words::aisles::Aisle;
 
 // Links are 16-bit numbers, so no more records are used.
 const MOST: usize = 65535;
@@ -30,10 +31,10 @@ fn tree_of(s: u16, t: u16) -> u16
 }
 
 // Whether a sparse tree can have these sizes. Any number of records serves.
-pub fn check_sparse(shuttles: u16, moves: u16) -> Result<(), Refusal>
-    ensures { result ≡ sizable shuttles moves }
+pub fn check_sparse(aisle: Aisle) -> Result<(), Refusal>
+    ensures { result ≡ sizable aisle.shuttles aisle.moves }
 {
-    check_sizes(shuttles, moves)
+    check_sizes(aisle)
 }
 
 // Frees every record, and says which one is the first.
@@ -42,8 +43,8 @@ fn release(records: &mut [Record]) -> Option<u16>
     ensures { (us : List ℕ) × Chain records.new result us × (length us ≡ length records.new) }
 {
     let mut head = None;
-    for i in 0..records.len() {
-        records[i] = Record::Free(head);
+    for (i, record) in records.iter_mut().enumerate() {
+        *record = Record::Free(head);
         head = Some(i as u16);
     }
     head
@@ -76,30 +77,34 @@ fn no_roots() -> [Option<u16>; TREES]
     [None; TREES]
 }
 
-// The sizes, how many cells are filled, the first free record, the root of each tree, and the records.
+// The trees of all pairs: the aisle, how many cells are filled, the first free record, the root of each tree, and the records.
 #[derive(Drop)]
-struct Lent<'a> {
-    shuttles: u16,
-    moves: u16,
+struct Forest<'a> {
+    aisle: Aisle,
     filled: u32,
     head: Option<u16>,
     roots: [Option<u16>; TREES],
     records: &'a mut [Record],
+    ghost small: { Small aisle.shuttles aisle.moves },
+    ghost few: { length records.now ≤ 65535 },
+    // the records in use are the nodes of the trees, each in one of them, and all others are free
+    ghost formed: { (g : ℕ) → g < trees → tree_formed aisle.moves roots records.now g ≡ true },
+    ghost within: { filled ≤ length records.now },
+    ghost spare: { chained (length records.now - filled) records.now head ≡ true },
 }
 
-impl<'a> Lent<'a> {
+impl<'a> Forest<'a> {
     // A table without an entry.
-    fn empty(shuttles: u16, moves: u16, records: &'a mut [Record]) -> Lent<'a>
-        requires { length records.old ≤ 65535 }
-        ensures sized { (result.shuttles ≡ shuttles) × (result.moves ≡ moves) × (length result.records.now ≡ length records.old) × (result.filled ≡ 0) }
-        ensures good { Good result.moves result.head 0 result.roots result.records.now }
-        ensures none { (g p : ℕ) → held_in result.moves result.roots result.records.now g p ≡ None }
+    fn empty(aisle: Aisle, records: &'a mut [Record]) -> Forest<'a>
+        requires few { length records.old ≤ 65535 }
+        requires small { Small aisle.shuttles aisle.moves }
+        ensures sized { (result.aisle ≡ aisle) × (length result.records.now ≡ length records.old) × (result.filled ≡ 0) }
+        ensures none { (g p : ℕ) → held_in result.aisle.moves result.roots result.records.now g p ≡ None }
     {
         let head = release(records);
         let roots = no_roots();
-        Lent {
-            shuttles,
-            moves,
+        Forest {
+            aisle,
             filled: 0,
             head,
             roots,
@@ -108,29 +113,26 @@ impl<'a> Lent<'a> {
     }
 
     // A table without an entry; where the check refuses, no record is used.
-    fn over(shuttles: u16, moves: u16, records: &'a mut [Record]) -> Lent<'a>
-        ensures shuttles { result.shuttles ≡ if_done (sizable shuttles moves) 1 shuttles }
-        ensures moves { result.moves ≡ if_done (sizable shuttles moves) 1 moves }
-        ensures used { length result.records.now ≡ sparse_used shuttles moves (length records.old) }
+    fn over(aisle: Aisle, records: &'a mut [Record]) -> Forest<'a>
+        ensures shuttles { result.aisle.shuttles ≡ if_done (sizable aisle.shuttles aisle.moves) 1 aisle.shuttles }
+        ensures moves { result.aisle.moves ≡ if_done (sizable aisle.shuttles aisle.moves) 1 aisle.moves }
+        ensures used { length result.records.now ≡ sparse_used aisle.shuttles aisle.moves (length records.old) }
         ensures filled { result.filled ≡ 0 }
-        ensures good { Good result.moves result.head 0 result.roots result.records.now }
-        ensures none { (g p : ℕ) → held_in result.moves result.roots result.records.now g p ≡ None }
+        ensures none { (g p : ℕ) → held_in result.aisle.moves result.roots result.records.now g p ≡ None }
     {
-        match check_sparse(shuttles, moves) {
-            Err(_) => Lent::empty(1, 1, front(records, 0)),
+        match check_sparse(aisle) {
+            Err(_) => Forest::empty(Aisle::new(1, 1), front(records, 0)),
             Ok(()) => {
                 let used = records.len().min(MOST);
-                Lent::empty(shuttles, moves, front(records, used))
+                Forest::empty(aisle, front(records, used))
             }
         }
     }
 
     // Empties every tree.
     fn blank(&mut self)
-        requires { length self.old.records.now ≤ 65535 }
-        ensures same { (self.new.shuttles ≡ self.old.shuttles) × (self.new.moves ≡ self.old.moves) × (length self.new.records.now ≡ length self.old.records.now) × (self.new.filled ≡ 0) }
-        ensures good { Good self.new.moves self.new.head 0 self.new.roots self.new.records.now }
-        ensures none { (g p : ℕ) → held_in self.new.moves self.new.roots self.new.records.now g p ≡ None }
+        ensures same { (self.new.aisle ≡ self.old.aisle) × (length self.new.records.now ≡ length self.old.records.now) × (self.new.filled ≡ 0) }
+        ensures none { (g p : ℕ) → held_in self.new.aisle.moves self.new.roots self.new.records.now g p ≡ None }
     {
         self.head = release(self.records);
         self.roots = no_roots();
@@ -139,38 +141,44 @@ impl<'a> Lent<'a> {
 
     // What a tree holds at a place.
     fn cell(&self, tree: u16, place: u16) -> Option<u16>
-        requires small { self.now.moves ≤ 4096 }
         requires inside { tree < trees }
-        requires good { Good self.now.moves self.now.head self.now.filled self.now.roots self.now.records.now }
-        ensures { result ≡ held_in self.now.moves self.now.roots self.now.records.now tree place }
+        ensures { result ≡ held_in self.now.aisle.moves self.now.roots self.now.records.now tree place }
     {
         find(
             self.records,
             self.roots[tree as usize],
             0,
-            self.moves,
+            self.aisle.moves,
             place,
         )
     }
 
     // The smallest value of a tree from place i on.
     fn least(&self, tree: u16, i: u16) -> Option<u16>
-        requires small { self.now.moves ≤ 4096 }
         requires inside { tree < trees }
-        requires good { Good self.now.moves self.now.head self.now.filled self.now.roots self.now.records.now }
-        ensures { result ≡ least_of (held_in self.now.moves self.now.roots self.now.records.now tree) i self.now.moves }
+        ensures { result ≡ least_of (held_in self.now.aisle.moves self.now.roots self.now.records.now tree) i self.now.aisle.moves }
     {
-        least(self.records, self.roots[tree as usize], 0, self.moves, i)
+        least(
+            self.records,
+            self.roots[tree as usize],
+            0,
+            self.aisle.moves,
+            i,
+        )
     }
 
     // The greatest place of a tree whose value is at most j.
     fn last(&self, tree: u16, j: u16) -> Option<u16>
-        requires small { self.now.moves ≤ 4096 }
         requires inside { tree < trees }
-        requires good { Good self.now.moves self.now.head self.now.filled self.now.roots self.now.records.now }
-        ensures { result ≡ last_of (held_in self.now.moves self.now.roots self.now.records.now tree) j self.now.moves }
+        ensures { result ≡ last_of (held_in self.now.aisle.moves self.now.roots self.now.records.now tree) j self.now.aisle.moves }
     {
-        last(self.records, self.roots[tree as usize], 0, self.moves, j)
+        last(
+            self.records,
+            self.roots[tree as usize],
+            0,
+            self.aisle.moves,
+            j,
+        )
     }
 
     // Whether every record is in use.
@@ -190,25 +198,21 @@ impl<'a> Lent<'a> {
 
     // Fills an empty cell of a tree: its entry takes the first free record.
     fn fill(&mut self, tree: u16, new: Entry)
-        requires small { self.old.moves ≤ 4096 }
-        requires few { length self.old.records.now ≤ 65535 }
         requires inside { tree < trees }
-        requires place { new.place < self.old.moves }
-        requires value { new.value < self.old.moves }
-        requires good { Good self.old.moves self.old.head self.old.filled self.old.roots self.old.records.now }
-        requires empty { held_in self.old.moves self.old.roots self.old.records.now tree new.place ≡ None }
+        requires place { new.place < self.old.aisle.moves }
+        requires value { new.value < self.old.aisle.moves }
+        requires empty { held_in self.old.aisle.moves self.old.roots self.old.records.now tree new.place ≡ None }
         requires room { self.old.filled < length self.old.records.now }
-        ensures same { (self.new.shuttles ≡ self.old.shuttles) × (self.new.moves ≡ self.old.moves) × (length self.new.records.now ≡ length self.old.records.now) }
+        ensures same { (self.new.aisle ≡ self.old.aisle) × (length self.new.records.now ≡ length self.old.records.now) }
         ensures filled { self.new.filled ≡ self.old.filled + 1 }
-        ensures good { Good self.new.moves self.new.head self.new.filled self.new.roots self.new.records.now }
-        ensures cells { Changed self.old.moves self.old.roots self.old.records.now self.new.roots self.new.records.now tree new.place (Some new.value) }
+        ensures cells { Changed self.old.aisle.moves self.old.roots self.old.records.now self.new.roots self.new.records.now tree new.place (Some new.value) }
     {
         match self.head {
             None => unreachable(),
             Some(fresh) => {
                 let next = self.next(fresh);
                 let at = self.roots[tree as usize];
-                let n = self.moves;
+                let n = self.aisle.moves;
                 let root = insert(self.records, tree, at, 0, n, fresh, new);
                 self.roots[tree as usize] = Some(root);
                 self.head = next;
@@ -219,18 +223,15 @@ impl<'a> Lent<'a> {
 
     // Empties a filled cell of a tree: its record is the first free one.
     fn empty_cell(&mut self, tree: u16, place: u16)
-        requires small { self.old.moves ≤ 4096 }
         requires inside { tree < trees }
-        requires good { Good self.old.moves self.old.head self.old.filled self.old.roots self.old.records.now }
-        requires held { (v : ℕ) × (held_in self.old.moves self.old.roots self.old.records.now tree place ≡ Some v) }
+        requires held { (v : ℕ) × (held_in self.old.aisle.moves self.old.roots self.old.records.now tree place ≡ Some v) }
         requires some { 0 < self.old.filled }
-        ensures same { (self.new.shuttles ≡ self.old.shuttles) × (self.new.moves ≡ self.old.moves) × (length self.new.records.now ≡ length self.old.records.now) }
+        ensures same { (self.new.aisle ≡ self.old.aisle) × (length self.new.records.now ≡ length self.old.records.now) }
         ensures filled { self.new.filled + 1 ≡ self.old.filled }
-        ensures good { Good self.new.moves self.new.head self.new.filled self.new.roots self.new.records.now }
-        ensures cells { Changed self.old.moves self.old.roots self.old.records.now self.new.roots self.new.records.now tree place None }
+        ensures cells { Changed self.old.aisle.moves self.old.roots self.old.records.now self.new.roots self.new.records.now tree place None }
     {
         let at = self.roots[tree as usize];
-        let n = self.moves;
+        let n = self.aisle.moves;
         let head = self.head;
         let rest = remove(self.records, tree, at, 0, n, place, head);
         self.roots[tree as usize] = rest.link;
@@ -240,106 +241,94 @@ impl<'a> Lent<'a> {
 
     // Gives a filled cell of a tree another value: its entry goes out and comes in again, and needs no other record.
     fn refill(&mut self, tree: u16, new: Entry)
-        requires small { self.old.moves ≤ 4096 }
-        requires few { length self.old.records.now ≤ 65535 }
         requires inside { tree < trees }
-        requires place { new.place < self.old.moves }
-        requires value { new.value < self.old.moves }
-        requires good { Good self.old.moves self.old.head self.old.filled self.old.roots self.old.records.now }
-        requires held { (v : ℕ) × (held_in self.old.moves self.old.roots self.old.records.now tree new.place ≡ Some v) }
+        requires place { new.place < self.old.aisle.moves }
+        requires value { new.value < self.old.aisle.moves }
+        requires held { (v : ℕ) × (held_in self.old.aisle.moves self.old.roots self.old.records.now tree new.place ≡ Some v) }
         requires some { 0 < self.old.filled }
-        ensures same { (self.new.shuttles ≡ self.old.shuttles) × (self.new.moves ≡ self.old.moves) × (length self.new.records.now ≡ length self.old.records.now) }
+        ensures same { (self.new.aisle ≡ self.old.aisle) × (length self.new.records.now ≡ length self.old.records.now) }
         ensures filled { self.new.filled ≡ self.old.filled }
-        ensures good { Good self.new.moves self.new.head self.new.filled self.new.roots self.new.records.now }
-        ensures cells { Changed self.old.moves self.old.roots self.old.records.now self.new.roots self.new.records.now tree new.place (Some new.value) }
+        ensures cells { Changed self.old.aisle.moves self.old.roots self.old.records.now self.new.roots self.new.records.now tree new.place (Some new.value) }
     {
         self.empty_cell(tree, new.place);
         self.fill(tree, new);
     }
 }
 
-// The table. What holds of its records stands here and not in `Lent`, whose calls may break it on their way.
+// The table.
 #[derive(Drop)]
 pub struct SparseTree<'a> {
-    lent: Lent<'a>,
-    ghost small: { Small lent.shuttles lent.moves },
-    ghost few: { length lent.records.now ≤ 65535 },
-    // each tree has its ranges and its order, and only records that name it
-    ghost formed: { (g : ℕ) → g < trees → tree_formed lent.moves lent.roots lent.records.now g ≡ true },
-    // the records that are in use are as many as the filled cells, and all others are free
-    ghost within: { lent.filled ≤ length lent.records.now },
-    ghost spare: { chained (length lent.records.now - lent.filled) lent.records.now lent.head ≡ true },
-    ghost counted: { lent.filled ≡ filled_of lent.shuttles lent.moves (sparse_cell lent.shuttles lent.moves lent.roots lent.records.now) },
+    forest: Forest<'a>,
+    ghost counted: { forest.filled ≡ filled_of forest.aisle.shuttles forest.aisle.moves (sparse_cell forest.aisle.shuttles forest.aisle.moves forest.roots forest.records.now) },
 }
 
 impl<'a> SparseTree<'a> {
     // An empty table over the records, of which it uses 65,535 at most. Where the check refuses, the table has no cell, and uses none.
-    pub fn make(shuttles: u16, moves: u16, records: &'a mut [Record]) -> SparseTree<'a>
-        ensures means { sparse_meaning result.lent.shuttles result.lent.moves result.lent.roots result.lent.records.now ≡ sparse_made shuttles moves (length records.old) }
+    pub fn make(aisle: Aisle, records: &'a mut [Record]) -> SparseTree<'a>
+        ensures means { sparse_meaning result.forest.aisle.shuttles result.forest.aisle.moves result.forest.roots result.forest.records.now ≡ sparse_made aisle.shuttles aisle.moves (length records.old) }
     {
         SparseTree {
-            lent: Lent::over(shuttles, moves, records),
+            forest: Forest::over(aisle, records),
         }
     }
 }
 
 impl<'a> Table for SparseTree<'a> {
-    ghost meaning = { λ t. sparse_meaning t.lent.shuttles t.lent.moves t.lent.roots t.lent.records.now };
+    ghost meaning = { λ t. sparse_meaning t.forest.aisle.shuttles t.forest.aisle.moves t.forest.roots t.forest.records.now };
 
-    ghost lawful = { λ t. sparse_lawful t.lent.shuttles t.lent.moves t.lent.filled t.lent.roots t.lent.records.now t.small t.within t.formed t.counted };
+    ghost lawful = { λ t. sparse_lawful t.forest.aisle.shuttles t.forest.aisle.moves t.forest.filled t.forest.roots t.forest.records.now t.forest.small t.forest.within t.forest.formed t.counted };
 
     fn sizes(&self) -> Sizes {
         Sizes {
-            shuttles: self.lent.shuttles,
-            moves: self.lent.moves,
-            capacity: self.lent.records.len() as u32,
-            filled: self.lent.filled,
+            aisle: self.forest.aisle,
+            capacity: self.forest.records.len() as u32,
+            filled: self.forest.filled,
         }
     }
 
     fn cell(&self, s: u16, t: u16, i: u16) -> Result<Option<u16>, Refusal> {
-        check_cell(self.lent.shuttles, self.lent.moves, s, t, i)?;
-        Ok(self.lent.cell(tree_of(s, t), i))
+        check_cell(self.forest.aisle, s, t, i)?;
+        Ok(self.forest.cell(tree_of(s, t), i))
     }
 
     fn wipe(&mut self) {
-        self.lent.blank();
+        self.forest.blank();
     }
 
     fn put(&mut self, s: u16, t: u16, i: u16, j: u16) -> Result<(), Refusal> {
-        check_cell(self.lent.shuttles, self.lent.moves, s, t, i)?;
-        check_value(self.lent.moves, j)?;
+        check_cell(self.forest.aisle, s, t, i)?;
+        check_value(self.forest.aisle, j)?;
         let tree = tree_of(s, t);
         let entry = Entry { place: i, value: j };
-        match self.lent.cell(tree, i) {
-            Some(_) => self.lent.refill(tree, entry),
+        match self.forest.cell(tree, i) {
+            Some(_) => self.forest.refill(tree, entry),
             None => {
-                if self.lent.is_full() {
+                if self.forest.is_full() {
                     return Err(Refusal::TableFull);
                 }
-                self.lent.fill(tree, entry);
+                self.forest.fill(tree, entry);
             }
         }
         Ok(())
     }
 
     fn clear(&mut self, s: u16, t: u16, i: u16) -> Result<(), Refusal> {
-        check_cell(self.lent.shuttles, self.lent.moves, s, t, i)?;
+        check_cell(self.forest.aisle, s, t, i)?;
         let tree = tree_of(s, t);
-        match self.lent.cell(tree, i) {
-            Some(_) => self.lent.empty_cell(tree, i),
+        match self.forest.cell(tree, i) {
+            Some(_) => self.forest.empty_cell(tree, i),
             None => {}
         }
         Ok(())
     }
 
     fn least(&self, s: u16, t: u16, i: u16) -> Result<Option<u16>, Refusal> {
-        check_cell(self.lent.shuttles, self.lent.moves, s, t, i)?;
-        Ok(self.lent.least(tree_of(s, t), i))
+        check_cell(self.forest.aisle, s, t, i)?;
+        Ok(self.forest.least(tree_of(s, t), i))
     }
 
     fn last(&self, s: u16, t: u16, j: u16) -> Result<Option<u16>, Refusal> {
-        check_cell(self.lent.shuttles, self.lent.moves, s, t, j)?;
-        Ok(self.lent.last(tree_of(s, t), j))
+        check_cell(self.forest.aisle, s, t, j)?;
+        Ok(self.forest.last(tree_of(s, t), j))
     }
 }

@@ -83,10 +83,7 @@ pub(crate) fn least(records: &[Record], at: Option<u16>, lo: u16, hi: u16, i: u1
 fn later_of(a: Option<u16>, b: u16) -> u16
     ensures { result ≡ later a b }
 {
-    match a {
-        Some(x) => { if x < b { b } else { x } }
-        None => b,
-    }
+    a.map_or(b, |x| x.max(b))
 }
 
 // The greatest place whose value is at most j. Below a node with a greater value there is none; the lower half matters only where the upper one has none, and the node's own entry lies in the lower half too.

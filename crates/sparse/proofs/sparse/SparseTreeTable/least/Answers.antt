@@ -2,12 +2,12 @@ use Rattle.sparse.proofs.Sparses.{sound_of, below_sixteen, number_lt, least_is}
 use Rattle.sparse.proofs.sparse.SparseTreeTable.least.Goals as goal
 
 pub tree_of-requires : goal.tree_of-requires
-tree_of-requires c = below_sixteen _ _ _ _ _ c.args.self.now.small c.in_ok-check_cell.ensures
+tree_of-requires c = below_sixteen _ _ _ _ _ c.args.self.now.forest.small c.in_ok-check_cell.ensures
 
 pub least-requires : goal.least-requires
 least-requires c =
     let sound = sound_of c.args.self.now in
-    record { small = sound.small.3; inside = number_lt sound _ _ _ c.in_ok-check_cell.ensures _ c.tree_of.ensures; good = sound.good }
+    record { inside = number_lt sound _ _ _ c.in_ok-check_cell.ensures _ c.tree_of.ensures }
 
 pub returns : goal.returns
-returns c = least_is _ _ c.args.self.now.lent.roots _ _ _ _ c.in_ok-check_cell.ensures _ c.tree_of.ensures _ c.least.ensures
+returns c = least_is _ _ c.args.self.now.forest.roots _ _ _ _ c.in_ok-check_cell.ensures _ c.tree_of.ensures _ c.least.ensures
