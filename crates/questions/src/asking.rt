@@ -9,16 +9,14 @@ use crate::checks::{check_moves, check_question};
 use crate::rounds::{Way, search};
 use tables::table::Table;
 use words::Refusal;
+use words::moves::Code;
 
 // The code of t's move at the entry's place.
 fn coded(t: u16, entry: Option<u16>) -> Option<u16>
     requires { (t < 16) × (Under 4096 entry) }
     ensures { result ≡ coded_of t entry }
 {
-    match entry {
-        Some(p) => Some(t * 4096 + p),
-        None => None,
-    }
+    entry.map(|p| t * 4096 + p)
 }
 
 // What the question finds, for a move and a shuttle of the table.
@@ -27,11 +25,12 @@ fn find<T: Table>(table: &T, way: Way, u: u16, t: u16) -> (Option<u16>, u32)
     requires of_shuttle { t < (T.Table.meaning table.now).shuttles }
     ensures { Finding way (T.Table.meaning table.now) u t result.0 result.1 }
 {
-    if u / 4096 == t {
+    let from = Code(u);
+    if from.shuttle() == t {
         return (Some(u), 0);
     }
-    let k = table.sizes().shuttles;
-    let (entry, rounds) = search(table, way, k, u / 4096, u % 4096, t);
+    let k = table.sizes().aisle.shuttles;
+    let (entry, rounds) = search(table, way, k, from.shuttle(), from.place(), t);
     (coded(t, entry), rounds)
 }
 
@@ -39,8 +38,8 @@ fn find<T: Table>(table: &T, way: Way, u: u16, t: u16) -> (Option<u16>, u32)
 pub fn nearest<T: Table>(table: &T, way: Way, u: u16, t: u16) -> (Result<Option<u16>, Refusal>, u32)
     ensures { Asked way (T.Table.meaning table.now) u t result.0 result.1 }
 {
-    let sizes = table.sizes();
-    if let Err(e) = check_question(sizes.shuttles, sizes.moves, u, t) {
+    let aisle = table.sizes().aisle;
+    if let Err(e) = check_question(aisle, u, t) {
         return (Err(e), 0);
     }
     let (found, rounds) = find(table, way, u, t);
@@ -50,20 +49,17 @@ pub fn nearest<T: Table>(table: &T, way: Way, u: u16, t: u16) -> (Result<Option<
 fn reaches(found: Option<u16>, v: u16) -> bool
     ensures { result ≡ up_to found v }
 {
-    match found {
-        Some(x) => x <= v,
-        None => false,
-    }
+    found.is_some_and(|x| x <= v)
 }
 
 // Whether the move u is before the move v.
 pub fn precedes<T: Table>(table: &T, u: u16, v: u16) -> (Result<bool, Refusal>, u32)
     ensures { Told (T.Table.meaning table.now) u v result.0 result.1 }
 {
-    let sizes = table.sizes();
-    if let Err(e) = check_moves(sizes.shuttles, sizes.moves, u, v) {
+    let aisle = table.sizes().aisle;
+    if let Err(e) = check_moves(aisle, u, v) {
         return (Err(e), 0);
     }
-    let (found, rounds) = find(table, Way::After, u, v / 4096);
+    let (found, rounds) = find(table, Way::After, u, Code(v).shuttle());
     (Ok(reaches(found, v)), rounds)
 }

@@ -3,14 +3,17 @@ ghost use Rattle.std.specs.Prelude.{◌≡◌};
 ghost use Rattle.questions.specs.Checks.{move_check, moves_check, wait_check, question_check};
 
 use words::Refusal;
+use words::aisles::Aisle;
+use words::moves::Code;
 
 // Whether u is a move.
-fn check_move(k: u16, n: u16, u: u16) -> Result<(), Refusal>
-    ensures { result ≡ move_check k n u }
+#[tactic(auto, unfolding(crate::specs::Checks::move_check))]
+pub fn check_move(aisle: Aisle, u: u16) -> Result<(), Refusal>
+    ensures { result ≡ move_check aisle.shuttles aisle.moves u }
 {
-    if u / 4096 >= k {
+    if Code(u).shuttle() >= aisle.shuttles {
         Err(Refusal::NoSuchShuttle)
-    } else if u % 4096 >= n {
+    } else if Code(u).place() >= aisle.moves {
         Err(Refusal::NoSuchPlace)
     } else {
         Ok(())
@@ -18,19 +21,19 @@ fn check_move(k: u16, n: u16, u: u16) -> Result<(), Refusal>
 }
 
 // Whether u and v are moves.
-pub fn check_moves(k: u16, n: u16, u: u16, v: u16) -> Result<(), Refusal>
-    ensures { result ≡ moves_check k n u v }
+pub fn check_moves(aisle: Aisle, u: u16, v: u16) -> Result<(), Refusal>
+    ensures { result ≡ moves_check aisle.shuttles aisle.moves u v }
 {
-    check_move(k, n, u)?;
-    check_move(k, n, v)
+    check_move(aisle, u)?;
+    check_move(aisle, v)
 }
 
 // Whether u and v are moves on different shuttles.
-pub fn check_wait(k: u16, n: u16, u: u16, v: u16) -> Result<(), Refusal>
-    ensures { result ≡ wait_check k n u v }
+pub fn check_wait(aisle: Aisle, u: u16, v: u16) -> Result<(), Refusal>
+    ensures { result ≡ wait_check aisle.shuttles aisle.moves u v }
 {
-    check_moves(k, n, u, v)?;
-    if u / 4096 == v / 4096 {
+    check_moves(aisle, u, v)?;
+    if Code(u).shuttle() == Code(v).shuttle() {
         Err(Refusal::SameShuttle)
     } else {
         Ok(())
@@ -38,11 +41,11 @@ pub fn check_wait(k: u16, n: u16, u: u16, v: u16) -> Result<(), Refusal>
 }
 
 // Whether u is a move, and t a shuttle.
-pub fn check_question(k: u16, n: u16, u: u16, t: u16) -> Result<(), Refusal>
-    ensures { result ≡ question_check k n u t }
+pub fn check_question(aisle: Aisle, u: u16, t: u16) -> Result<(), Refusal>
+    ensures { result ≡ question_check aisle.shuttles aisle.moves u t }
 {
-    check_move(k, n, u)?;
-    if t >= k {
+    check_move(aisle, u)?;
+    if t >= aisle.shuttles {
         Err(Refusal::NoSuchShuttle)
     } else {
         Ok(())

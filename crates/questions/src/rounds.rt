@@ -6,7 +6,7 @@ ghost use Rattle.questions.specs.Looking.{look_of, pick_of, Under, Places, Comes
 use tables::table::Table;
 
 // The two ways to ask: for what has to follow a move, and for what has to come before it.
-#[derive(Clone, Copy)]
+#[derive(Clone, Copy, PartialEq, Eq, Debug)]
 pub enum Way {
     After,
     Before,
@@ -21,8 +21,7 @@ fn nearer(way: Way, a: Option<u16>, b: Option<u16>) -> Option<u16>
             Way::After => Some(x.min(y)),
             Way::Before => Some(x.max(y)),
         },
-        (Some(x), None) => Some(x),
-        (None, y) => y,
+        _ => a.or(b),
     }
 }
 
@@ -34,20 +33,14 @@ fn look<T: Table>(table: &T, way: Way, r: u16, q: u16, p: u16) -> Option<u16>
         Way::After => table.least(r, q, p),
         Way::Before => table.last(q, r, p),
     };
-    match answer {
-        Ok(o) => o,
-        Err(_) => None,
-    }
+    answer.unwrap_or(None)
 }
 
 // The same from an entry of r.
 fn led<T: Table>(table: &T, way: Way, r: u16, q: u16, from: Option<u16>) -> Option<u16>
     ensures { result ≡ via (look_of way (T.Table.meaning table.now) r q) from }
 {
-    match from {
-        Some(p) => look(table, way, r, q, p),
-        None => None,
-    }
+    from.and_then(|p| look(table, way, r, q, p))
 }
 
 // Looks at r's entry for q's.
@@ -59,26 +52,11 @@ fn relax<T: Table>(table: &T, way: Way, row: &mut [Option<u16>; 16], q: u16, r: 
     row[q as usize] = nearer(way, row[q as usize], other);
 }
 
-fn same(a: Option<u16>, b: Option<u16>) -> bool
-    ensures { Decides result (a ≡ b) }
-{
-    match (a, b) {
-        (None, None) => true,
-        (Some(x), Some(y)) => x == y,
-        _ => false,
-    }
-}
-
 // Whether two rows hold the same entries.
 fn unchanged(a: &[Option<u16>; 16], b: &[Option<u16>; 16]) -> bool
     ensures { Decides result (a.now ≡ b.now) }
 {
-    for q in 0..16 {
-        if !same(a[q], b[q]) {
-            return false;
-        }
-    }
-    true
+    a == b
 }
 
 // The row to start from: the entry of s is i, and each other shuttle has what is looked up from there.

@@ -1,10 +1,24 @@
-use Rattle.std.proofs.Common.{None, refl, ◌∙◌, arith}
-use Rattle.std.proofs.lemmas.List.{same_lists, get_or_default}
+use Rattle.std.proofs.Common.{◌≡◌, ℕ, eqb, Some, None, Option, refl, sym, arith}
+use Rattle.std.specs.Bool.{Decides}
+use Rattle.std.specs.Option.{option_eq}
+use Rattle.std.proofs.lemmas.Bool.{both_ways, eqb-true, eq-eqb}
+use Rattle.std.proofs.lemmas.Slice.Eq.{slice_eq-Decides}
 use Rattle.questions.proofs.rounds.unchanged.Goals as goal
 
+none_some : {A : Type 0} {x : ℕ} → None ≡ Some x → A
+none_some e = let z : ◌≡◌ {A = ℕ} 0 1 = cc in absurd (omega arith)
+
+same : (a b : Option ℕ) → Decides (option_eq eqb a b) (a ≡ b)
+same None None = ((λ _. refl), (λ _. refl))
+same None (Some y) = ((λ e. absurd (both_ways _ refl e)), (λ e. none_some e))
+same (Some x) None = ((λ e. absurd (both_ways _ refl e)), (λ e. none_some (sym e)))
+same (Some x) (Some y) = ((λ e. cc_some (eqb-true x y e)), (λ e. eq-eqb x y (unwrapped e)))
+  where
+    cc_some : x ≡ y → Some x ≡ Some y
+    cc_some e = cc
+
+    unwrapped : Some x ≡ Some y → x ≡ y
+    unwrapped e = cc
+
 pub returns : goal.returns
-returns c = (
-  λ _. same_lists c.args.a.now c.args.b.now (omega arith)
-      (λ x d l. get_or_default c.args.a.now x d None l ∙ c.loop-q.invariant x (omega arith) ∙ get_or_default c.args.b.now x None d (omega arith)),
-  λ _. refl,
-)
+returns c = slice_eq-Decides same c.args.a.now c.args.b.now c.eq.result c.eq.ensures
