@@ -1,22 +1,22 @@
 // Running orders, written into a slice.
 ghost use Rattle.std.specs.Prelude.{◌≡◌};
-ghost use Rattle.questions.specs.Checks.{move_check};
 ghost use Rattle.running.specs.Calls.{ListedSo, PushedSo};
 ghost use Rattle.running.specs.Progress.{Filled, Counts, Reach, count_of};
 
 use crate::ready::next;
 use questions::asking::nearest;
-use questions::checks::check_moves;
+use questions::checks::check_move;
 use questions::rounds::Way;
 use tables::table::Table;
 use words::Refusal;
+use words::moves::Code;
 
 // Writes all moves, each time the lowest shuttle's that may come now, within the bounds first.
 fn fill<T: Table>(table: &T, bounds: &[u16; 16], out: &mut [u16]) -> Result<usize, Refusal>
     ensures { Filled (T.Table.meaning table.now) bounds.now out.old out.new result }
 {
-    let sizes = table.sizes();
-    let total = sizes.shuttles as usize * sizes.moves as usize;
+    let aisle = table.sizes().aisle;
+    let total = aisle.shuttles as usize * aisle.moves as usize;
     if out.len() < total {
         return Err(Refusal::TooShort);
     }
@@ -31,8 +31,9 @@ fn fill<T: Table>(table: &T, bounds: &[u16; 16], out: &mut [u16]) -> Result<usiz
     Ok(total)
 }
 
-// With no move within the bounds, all are taken as they come.
-pub(crate) fn list_moves<T: Table>(table: &T, out: &mut [u16]) -> Result<usize, Refusal>
+// Writes the running order that takes the lowest shuttle whose next move is ready, each time: with no move within the bounds, all are taken as they come.
+#[tactic(auto, using(crate::proofs::Calls::list_of))]
+pub fn list<T: Table>(table: &T, out: &mut [u16]) -> Result<usize, Refusal>
     ensures { ListedSo (T.Table.meaning table.now) out.old out.new result }
 {
     fill(table, &[0; 16], out)
@@ -42,9 +43,8 @@ fn count(answer: Result<Option<u16>, Refusal>) -> u16
     ensures { result ≡ count_of answer }
 {
     match answer {
-        Ok(Some(x)) => x % 4096 + 1,
-        Ok(None) => 0,
-        Err(_) => 0,
+        Ok(Some(x)) => Code(x).place() + 1,
+        Ok(None) | Err(_) => 0,
     }
 }
 
@@ -60,25 +60,17 @@ fn bounds_of<T: Table>(table: &T, v: u16) -> [u16; 16]
     ensures { Reach (T.Table.meaning table.now) v result }
 {
     let mut bounds = [0u16; 16];
-    for t in 0..table.sizes().shuttles {
+    for t in 0..table.sizes().aisle.shuttles {
         bounds[t as usize] = bound(table, v, t);
     }
     bounds
 }
 
-// Whether v is a move.
-fn check_move(k: u16, n: u16, v: u16) -> Result<(), Refusal>
-    ensures { result ≡ move_check k n v }
-{
-    check_moves(k, n, v, v)
-}
-
-// The bounds are those of v.
-pub(crate) fn push_move<T: Table>(table: &T, v: u16, out: &mut [u16]) -> Result<usize, Refusal>
+// Writes the running order that does so with the moves before v first, v among them: the bounds are those of v.
+pub fn push<T: Table>(table: &T, v: u16, out: &mut [u16]) -> Result<usize, Refusal>
     ensures { PushedSo (T.Table.meaning table.now) v out.old out.new result }
 {
-    let sizes = table.sizes();
-    check_move(sizes.shuttles, sizes.moves, v)?;
+    check_move(table.sizes().aisle, v)?;
     let bounds = bounds_of(table, v);
     fill(table, &bounds, out)
 }

@@ -3,22 +3,23 @@ ghost use Rattle.running.specs.Calls.{TestsSo};
 
 use crate::ready::follows;
 use tables::table::Table;
+use words::moves::Code;
 
 // Each move has to be ready after those that stand earlier. The length is compared first, so that none can be missing.
-pub(crate) fn is_running<T: Table>(table: &T, codes: &[u16]) -> bool
+pub fn test<T: Table>(table: &T, codes: &[u16]) -> bool
     ensures { TestsSo (T.Table.meaning table.now) codes.now result }
 {
-    let sizes = table.sizes();
-    if codes.len() != sizes.shuttles as usize * sizes.moves as usize {
+    let aisle = table.sizes().aisle;
+    if codes.len() != aisle.shuttles as usize * aisle.moves as usize {
         return false;
     }
     let mut done = [0u16; 16];
-    for p in 0..codes.len() {
-        let code = codes[p];
-        if !follows(table, &done, code) {
+    for code in codes {
+        if !follows(table, &done, *code) {
             return false;
         }
-        done[(code / 4096) as usize] = code % 4096 + 1;
+        let next = Code(*code);
+        done[next.shuttle() as usize] = next.place() + 1;
     }
     true
 }

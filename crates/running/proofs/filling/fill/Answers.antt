@@ -7,7 +7,7 @@ pub loop-p-preserved : goal.loop-p-preserved
 loop-p-preserved g c =
     let m = g.T.Table.meaning c.args.table.now in
     let law = g.T.Table.lawful c.args.table.now in
-    let all = c.sizes-sizes.result.shuttles * c.sizes-sizes.result.moves in
+    let all = c.sizes.result.aisle.shuttles * c.sizes.result.aisle.moves in
     elim c.match-next.branch [
       | in-Some w ↦
           turn_more m law.shuttles_few law.moves_few c.args.bounds.now c.args.out.now all c.loop-p.done c.loop-p.out c.loop-p.p (omega arith) (omega arith) c.loop-p.invariant
@@ -20,6 +20,6 @@ loop-p-preserved g c =
 pub returns : goal.returns
 returns g c =
     let m = g.T.Table.meaning c.args.table.now in
-    let all = c.sizes-sizes.result.shuttles * c.sizes-sizes.result.moves in
+    let all = c.sizes.result.aisle.shuttles * c.sizes.result.aisle.moves in
     let e : all ≡ m.shuttles * m.moves = cc in
     filled_end m c.args.bounds.now c.args.out.now all c.loop-p.done c.loop-p.out c.loop-p.p (omega arith) (omega arith) e c.loop-p.invariant
