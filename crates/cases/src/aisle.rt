@@ -75,14 +75,26 @@ fn lists_and_pushes(rt: HostRuntime) -> Result<(), Fail> {
         )
     );
     assert!(rt;
-        is(calls.as_slice(), 4, Err(Refusal::TooShort), &[7, 7, 7, 7, 7, 7, 7, 7]),
+        is(
+            calls.as_slice(),
+            4,
+            Err(Refusal::TooShort),
+            &[7, 7, 7, 7, 7, 7, 7, 7]
+        ),
         "a short slice stays"
     );
     assert!(rt;
         is(calls.as_slice(), 5, Err(Refusal::NoSuchPlace), &[]),
         "the move before the slice"
     );
-    assert!(rt; is(calls.as_slice(), 6, Ok(Answer::Tested(false)), &[7, 7, 7, 7, 7, 7, 7, 7, 7]));
+    assert!(rt;
+        is(
+            calls.as_slice(),
+            6,
+            Ok(Answer::Tested(false)),
+            &[7, 7, 7, 7, 7, 7, 7, 7, 7]
+        )
+    );
     Ok(())
 }
 
@@ -109,8 +121,20 @@ fn tests(rt: HostRuntime) -> Result<(), Fail> {
     run(calls.as_mut_slice());
     assert!(rt; calls.len() == 5);
     assert_eq!(rt; calls[1].answer, Some(Ok(Answer::Tested(true))));
-    assert_eq!(rt; calls[2].answer, Some(Ok(Answer::Tested(false))), "the wait is not kept");
-    assert_eq!(rt; calls[3].answer, Some(Ok(Answer::Tested(false))), "another length");
-    assert_eq!(rt; calls[4].answer, Some(Ok(Answer::Tested(false))), "a move twice");
+    assert_eq!(rt;
+        calls[2].answer,
+        Some(Ok(Answer::Tested(false))),
+        "the wait is not kept"
+    );
+    assert_eq!(rt;
+        calls[3].answer,
+        Some(Ok(Answer::Tested(false))),
+        "another length"
+    );
+    assert_eq!(rt;
+        calls[4].answer,
+        Some(Ok(Answer::Tested(false))),
+        "a move twice"
+    );
     Ok(())
 }

@@ -66,7 +66,10 @@ mod station_call {
     #[test]
     fn the_same_as_a_result(rt: HostRuntime) {
         let mut bytes = [7u8; 120];
-        assert_eq!(rt; report(0, &WORKED[0..31], &mut bytes), Err(Refusal::BadForm));
+        assert_eq!(rt;
+            report(0, &WORKED[0..31], &mut bytes),
+            Err(Refusal::BadForm)
+        );
         assert_eq!(rt;
             report(2, &WORKED, &mut bytes),
             Err(Refusal::NoSuchKind),
