@@ -9,6 +9,7 @@ use stores::store::Store;
 use tables::table::Table;
 
 // Makes the call, with its own slice, and leaves its outcome.
+#[tactic(auto, using(std::proofs::lemmas::List::with_items_is, crate::proofs::Replaying::step_same))]
 fn make_call<T: Table, S: Store>(board: &mut Board<T, S>, call: &mut Call)
     ensures { CallKeeps (T.Table.meaning board.old.table) (S.Store.holding board.old.store) call.old call.new (T.Table.meaning board.new.table) (S.Store.holding board.new.store) }
 {

@@ -3,6 +3,7 @@
 
 use station::station::report;
 use std::io::{Read, Write};
+use words::kinds::TableKind;
 
 // One byte more than the longest edit file, so that a longer one is seen to be too long.
 const MOST: u64 = 16385;
@@ -10,16 +11,17 @@ const MOST: u64 = 16385;
 // 24 bytes for the first line and for each of the 2,729 steps that the longest file has.
 const REPORT: usize = 65520;
 
-// The plain table's kind.
-const PLAIN: u32 = 0;
-
 fn run(rt: &HostRuntime) -> anyhow::Result<()> {
     let heap = rt.alloc();
     let mut file: Vec<u8> = Vec::new(heap);
     let mut source = rt.stdin().take(MOST);
     source.read_to_end(&mut file)?;
     let mut bytes = Vec::from_elem(heap, 0u8, REPORT)?;
-    match report(PLAIN, file.as_slice(), bytes.as_mut_slice()) {
+    match report(
+        TableKind::Plain as u32,
+        file.as_slice(),
+        bytes.as_mut_slice(),
+    ) {
         Ok(length) => rt.stdout().write_all(&bytes[..length])?,
         Err(refusal) => println!(rt; "refused {}", refusal.number())?,
     }

@@ -4,7 +4,7 @@ use Rattle.tables.specs.Meaning.{Meaning}
 use Rattle.stores.specs.Holding.{Holding}
 use Rattle.board.specs.Standing.{Limits, Stands}
 use Rattle.runs.specs.declared.calls.Ask.{Ask}
-use Rattle.runs.specs.Law.{Outcome, Event, standing, Law}
+use Rattle.runs.specs.Law.{Outcome, Event, standing, Law, StepKeeps}
 use Rattle.runs.proofs.Stepping.{upright}
 use Rattle.runs.proofs.Runs.{law_none, law_more, standing_snoc}
 use Rattle.station.specs.Text.{Pours}
@@ -14,6 +14,12 @@ use Rattle.station.specs.Report.{line, lines_from, first_line, report_of}
 use Rattle.station.specs.Station.{events, UnknownRefused, Reported, StepTaken}
 use Rattle.station.proofs.Pouring.{pours_more, pours_same, poured_front}
 use Rattle.station.proofs.Short.{Small, line_short, first_line_short, answered_small}
+
+-- a call that has no slice
+pub step_taken : (m m' : Meaning) (h h' : Holding) (s : Option Ask) (q : Ask) (a : Outcome) (old new : List ℕ) → StepKeeps m h q old a new m' h' → length old ≡ 0 → length new ≡ 0 → s ≡ Some q → StepTaken m h s a m' h'
+step_taken m m' h h' s q a [] [] k e d i = subst (λ x. StepTaken m h x a m' h') (sym i) k
+step_taken m m' h h' s q a [] (y ∷ new) k e d i = absurd (omega arith)
+step_taken m m' h h' s q a (x ∷ old) new k e d i = absurd (omega arith)
 
 -- one step more
 

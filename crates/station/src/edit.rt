@@ -24,7 +24,7 @@ fn is_well_formed(file: &[u8]) -> bool
 }
 
 // What the header of an edit file says.
-#[derive(Clone, Copy)]
+#[derive(Clone, Copy, PartialEq, Eq, Debug)]
 pub struct Header {
     pub shuttles: u16,
     pub moves: u16,

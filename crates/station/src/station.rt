@@ -1,8 +1,7 @@
 // The call of the planning station.
-ghost use Rattle.std.specs.Prelude.{◌≡◌, ◌+◌, ◌*◌, ◌<◌, ◌≤◌, true, [], length, IfOk};
+ghost use Rattle.std.specs.Prelude.{◌≡◌, ◌+◌, ◌*◌, ◌<◌, ◌≤◌, true, length, IfOk};
 ghost use Rattle.words.specs.Refusals.{then};
 ghost use Rattle.board.specs.Standing.{limits};
-ghost use Rattle.runs.specs.Law.{StepKeeps};
 ghost use Rattle.station.specs.Edit.{well_formed, count_of, step_at, kind_check, form_check, header_told};
 ghost use Rattle.station.specs.Station.{Reported, Reports, KindsAlike, Station, ReportsAlike, StepTaken, Taken, Made, MadeWhere, empty_table};
 
@@ -10,7 +9,7 @@ use crate::edit::{Header, ask_at, check_file};
 use crate::text::Page;
 use board::board::Board;
 use fulltree::full::FullTree;
-use runs::calls::{Ask, Outcome};
+use runs::calls::Outcome;
 use runs::steps::step;
 use stores::loose::Loose;
 use stores::store::Store;
@@ -20,21 +19,14 @@ use tables::table::Table;
 use words::Refusal;
 use words::kinds::TableKind;
 
-// Makes a call that has no slice.
-fn make_call<T: Table, S: Store>(board: &mut Board<T, S>, ask: Ask) -> Outcome
-    ensures { StepKeeps (T.Table.meaning board.old.table) (S.Store.holding board.old.store) ask [] result [] (T.Table.meaning board.new.table) (S.Store.holding board.new.store) }
-{
-    let mut slice: [u16; 0] = [];
-    step(board, ask, &mut slice)
-}
-
 // Makes the call of one step; a step whose kind is not known is refused alone.
+#[tactic(auto, using(crate::proofs::Reporting::step_taken))]
 fn take_step<T: Table, S: Store>(board: &mut Board<T, S>, file: &[u8], i: usize) -> Outcome
     requires { (13 + 6 * i < length file.now) × (i < 65536) }
     ensures { StepTaken (T.Table.meaning board.old.table) (S.Store.holding board.old.store) (step_at file.now i) result (T.Table.meaning board.new.table) (S.Store.holding board.new.store) }
 {
     match ask_at(file, i) {
-        Some(ask) => make_call(board, ask),
+        Some(ask) => step(board, ask, &mut []),
         None => Err(Refusal::BadForm),
     }
 }
@@ -56,6 +48,7 @@ fn write_report<T: Table + Drop, S: Store + Drop>(
     let mut board = Board::make(table, store);
     let mut page = Page::over(report);
     page.put_first_line(header);
+    // by number, which a step's line tells and by which the definitions know it; pieces of the file would be no plainer
     for i in 0..header.steps {
         let outcome = take_step(&mut board, file, i as usize);
         page.put_line(i as u32 + 1, outcome);
