@@ -1,9 +1,9 @@
 -- What it says that the station takes a file: the board that it makes then.
-use Rattle.std.proofs.Common.{◌≡◌, ℕ, zero, suc, ◌+◌, ◌*◌, ◌^◌, ◌<◌, ◌≤◌, true, false, leb, List, length, None, Ok, Err, Result, IfOk, sym, refl, ap, ◌∙◌, subst, ⊎_elim, le_refl, mul-le-mul, arith, pow_mono}
+use Rattle.std.proofs.Common.{◌≡◌, ℕ, zero, suc, ◌+◌, ◌*◌, ◌^◌, ◌<◌, ◌≤◌, true, leb, List, length, None, Ok, Err, Result, IfOk, sym, refl, ap, ◌∙◌, subst, ⊎_elim, le_refl, mul-le-mul, arith, pow_mono}
 use Rattle.std.proofs.lemmas.Bool.Decides.{nat_tests}
 use Rattle.std.proofs.lemmas.Bool.{leb-true, le-leb, cases_lt}
 use Rattle.words.specs.declared.Refusal.{Refusal}
-use Rattle.words.specs.Refusals.{numbered, number_of, passed, refused, then, unless, if_done}
+use Rattle.words.specs.Refusals.{number_of, passed, refused, then, unless, if_done}
 use Rattle.words.specs.declared.kinds.TableKind.{TableKind}
 use Rattle.words.specs.declared.kinds.TableKind.TheVariants.{Plain, Full, Sparse}
 use Rattle.words.specs.Kinds.{table_kind_of}
@@ -26,9 +26,6 @@ use Rattle.station.proofs.Files.{formed}
 kinds_end : (n : ℕ) → 2 < n → table_kind_of n ≡ refused 12
 kinds_end n l = grind (arith, nat_tests)
 
-kinds_taken_end : (n : ℕ) → 2 < n → leb n 1 ≡ false
-kinds_taken_end n l = grind (arith, nat_tests)
-
 pub kind_known : (n : ℕ) (k : TableKind) → Ok k ≡ table_kind_of n → kind_check k ≡ unless (leb n 1) 12
 kind_known zero k e = let z : k ≡ Plain = cc in ap kind_check z
 kind_known (suc zero) k e = let z : k ≡ Full = cc in ap kind_check z
@@ -36,15 +33,6 @@ kind_known (suc (suc zero)) k e = let z : k ≡ Sparse = cc in ap kind_check z
 kind_known (suc (suc (suc n))) k e =
     let y : ◌≡◌ {A = Result TableKind Refusal} (Ok k) (refused 12) = e ∙ kinds_end (suc (suc (suc n))) (omega arith) in
     let z : ◌≡◌ {A = ℕ} 0 1 = cc in absurd (omega arith)
-
-pub kind_unknown : (n : ℕ) (e : Refusal) → Err e ≡ table_kind_of n → Err e ≡ unless (leb n 1) 12
-kind_unknown zero e p = let z : ◌≡◌ {A = ℕ} 0 1 = cc in absurd (omega arith)
-kind_unknown (suc zero) e p = let z : ◌≡◌ {A = ℕ} 0 1 = cc in absurd (omega arith)
-kind_unknown (suc (suc zero)) e p = let z : ◌≡◌ {A = ℕ} 0 1 = cc in absurd (omega arith)
-kind_unknown (suc (suc (suc n))) e p =
-    let y : ◌≡◌ {A = Result TableKind Refusal} (Err e) (refused 12) = p ∙ kinds_end (suc (suc (suc n))) (omega arith) in
-    let z : e ≡ numbered 12 = cc in
-    ap (λ x. Err x) z ∙ sym (ap (λ b. unless b 12) (kinds_taken_end (suc (suc (suc n))) (omega arith)))
 
 -- what the checks of a file say
 
@@ -135,13 +123,6 @@ made_over file old new r m h em eh p s = record {
 }
 
 -- the answer of a whole call
-
-pub made_where : (q : Result Unit Refusal) (file old new : List ℕ) (r : ℕ) → passed ≡ q → Made file old new r → MadeWhere q file old new (Ok r)
-made_where q file old new r ok p = subst (λ x. MadeWhere x file old new (Ok r)) ok (r, refl, p)
-
-pub refused_where : (q : Result Unit Refusal) (file old : List ℕ) (a : Result ℕ Refusal) (h : Header) (e : Refusal) → Err e ≡ then q (Ok h) → a ≡ Err e → MadeWhere q file old old a
-refused_where (Ok x) file old a h e p i = let z : ◌≡◌ {A = ℕ} 0 1 = cc in absurd (omega arith)
-refused_where (Err r) file old a h e p i = let z : e ≡ r = cc in (i ∙ ap (λ x. Err x) z, refl)
 
 pub reports_by : (kind : ℕ) (file old new : List ℕ) (a : Result ℕ Refusal) (u : Result Unit Refusal) → u ≡ unless (leb kind 1) 12
     → MadeWhere (then u (form_check file (length old))) file old new a → Reports kind file old new a
