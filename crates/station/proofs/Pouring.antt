@@ -1,11 +1,6 @@
 -- Bytes written after bytes.
-use Rattle.std.proofs.Common.{◌≡◌, ℕ, zero, suc, ◌+◌, ◌<◌, ◌≤◌, List, [], ◌∷◌, ◌++◌, length, take, drop, set, sym, refl, ap, ◌∙◌, subst, append_assoc, arith, length-append, length-set, take-append-drop, take-suc-set, drop-set-lt}
+use Rattle.std.proofs.Common.{◌≡◌, ℕ, suc, ◌+◌, ◌<◌, ◌≤◌, List, [], ◌∷◌, ◌++◌, length, take, drop, set, sym, ap, ◌∙◌, subst, append_assoc, arith, length-append, length-set, take-append-drop, take-suc-set, drop-set-lt}
 use Rattle.station.specs.Text.{poured, Pours}
-
-pub set_beyond : (xs : List ℕ) (at b : ℕ) → length xs ≤ at → set xs at b ≡ xs
-set_beyond [] at b l = refl
-set_beyond (x ∷ xs) zero b l = absurd (omega arith)
-set_beyond (x ∷ xs) (suc at) b l = ap (λ ys. x ∷ ys) (set_beyond xs at b (omega arith))
 
 poured_append : (xs : List ℕ) (at : ℕ) (bs cs : List ℕ) → poured xs at (bs ++ cs) ≡ poured (poured xs at bs) (at + length bs) cs
 poured_append xs at [] cs = let e : at ≡ at + 0 = omega arith in ap (λ n. poured xs n cs) e
