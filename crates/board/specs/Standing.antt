@@ -186,18 +186,17 @@ Tested b W codes y = (y ≡ true) ↔ Running b.shuttles (lengths b) W (moves_of
 
 -- what a call says of all waits that stand on its board
 
-abbrev pub PlaceKeeps : Meaning → Holding → (u v : ℕ) → Result Unit Refusal → Meaning → Holding → Type 0
-PlaceKeeps m h u v r m' h' =
-    (b : Limits) (W : Waits) → Stands b W m h → Placed b W u v r × Circled b W u v r × Stands b (placed_waits W u v r) m' h'
+pub record PlaceKeeps (m : Meaning) (h : Holding) (u v : ℕ) (r : Result Unit Refusal) (m' : Meaning) (h' : Holding) : Type 0 where
+  pub at : (b : Limits) (W : Waits) → Stands b W m h → Placed b W u v r × Circled b W u v r × Stands b (placed_waits W u v r) m' h'
 
-abbrev pub RemoveKeeps : Meaning → Holding → (u v : ℕ) → Result Unit Refusal → Meaning → Holding → Type 0
-RemoveKeeps m h u v r m' h' = (b : Limits) (W : Waits) → Stands b W m h → (r ≡ remove_gives b W u v) × Stands b (removed_waits W u v r) m' h'
+pub record RemoveKeeps (m : Meaning) (h : Holding) (u v : ℕ) (r : Result Unit Refusal) (m' : Meaning) (h' : Holding) : Type 0 where
+  pub at : (b : Limits) (W : Waits) → Stands b W m h → (r ≡ remove_gives b W u v) × Stands b (removed_waits W u v r) m' h'
 
-abbrev pub FindsSo : Way → Meaning → Holding → (u t : ℕ) → Result (Option ℕ) Refusal → ℕ → Type 0
-FindsSo w m h u t a c = (b : Limits) (W : Waits) → Stands b W m h → Found w b W u t a c
+pub record FindsSo (w : Way) (m : Meaning) (h : Holding) (u t : ℕ) (a : Result (Option ℕ) Refusal) (c : ℕ) : Type 0 where
+  pub at : (b : Limits) (W : Waits) → Stands b W m h → Found w b W u t a c
 
-abbrev pub TellsSo : Meaning → Holding → (u v : ℕ) → Result Bool Refusal → ℕ → Type 0
-TellsSo m h u v a c = (b : Limits) (W : Waits) → Stands b W m h → Tells b W u v a c
+pub record TellsSo (m : Meaning) (h : Holding) (u v : ℕ) (a : Result Bool Refusal) (c : ℕ) : Type 0 where
+  pub at : (b : Limits) (W : Waits) → Stands b W m h → Tells b W u v a c
 
 pub record ListsAt (m : Meaning) (h : Holding) (old new : List ℕ) (r : Result ℕ Refusal) : Type 0 where
   pub at : (b : Limits) (W : Waits) → Stands b W m h → Listed b W old new r

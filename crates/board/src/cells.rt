@@ -13,10 +13,7 @@ use words::Refusal;
 fn earlier(old: Option<u16>, j: u16) -> u16
     ensures { Some result ≡ sooner old (Some j) }
 {
-    match old {
-        Some(x) => x.min(j),
-        None => j,
-    }
+    old.map_or(j, |x| x.min(j))
 }
 
 // Lets a cell hold j, unless it holds less.
