@@ -6,7 +6,7 @@ use Rattle.words.specs.Refusals.{number_of}
 use Rattle.words.specs.Texts.{reason, move_text}
 use Rattle.words.specs.Kinds.{table_word, store_word}
 use Rattle.runs.specs.declared.calls.Answer.{Answer}
-use Rattle.runs.specs.declared.calls.Answer.TheVariants.{Pending, Done, Refused, Truth, Found, Listed, Tested}
+use Rattle.runs.specs.declared.calls.Answer.TheVariants.{Done, Truth, Found, Listed, Tested}
 use Rattle.commands.specs.declared.values.Setup.{Setup}
 use Rattle.commands.specs.declared.values.Wrong.{Wrong}
 use Rattle.commands.specs.declared.values.Wrong.TheVariants as wrong
@@ -39,14 +39,13 @@ abbrev pub rounds_text : List ℕ → ℕ → List ℕ
 rounds_text told rounds = told ++ (codes ", " ++ (decimal rounds ++ codes " rounds"))
 
 -- the line that answers a call whose slice holds these codes
-abbrev pub answer_text : Answer → List ℕ → List ℕ
-answer_text Pending cs = []
-answer_text Done cs = codes "done"
-answer_text (Refused e) cs = refused_text e
-answer_text (Truth truth rounds) cs = rounds_text (yes_or_no truth) rounds
-answer_text (Found o rounds) cs = rounds_text (found_text o) rounds
-answer_text (Listed n) cs = moves_text (take (min n (length cs)) cs)
-answer_text (Tested truth) cs = yes_or_no truth
+abbrev pub answer_text : Result Answer Refusal → List ℕ → List ℕ
+answer_text (Err e) cs = refused_text e
+answer_text (Ok Done) cs = codes "done"
+answer_text (Ok (Truth truth rounds)) cs = rounds_text (yes_or_no truth) rounds
+answer_text (Ok (Found o rounds)) cs = rounds_text (found_text o) rounds
+answer_text (Ok (Listed n)) cs = moves_text (take (min n (length cs)) cs)
+answer_text (Ok (Tested truth)) cs = yes_or_no truth
 
 -- the line that tells what a cell holds
 abbrev pub held_text : Result (Option ℕ) Refusal → List ℕ

@@ -2,7 +2,7 @@
 ghost use Rattle.std.specs.Prelude.{◌≡◌, Some};
 ghost use Rattle.commands.specs.Texts.{refused_text, yes_or_no, moves_text, answer_text, held_text};
 
-use runs::calls::Answer;
+use runs::calls::{Answer, Outcome};
 use std::fmt;
 use words::Refusal;
 use words::moves::Code;
@@ -48,38 +48,37 @@ impl fmt::Display for Moves<'_> {
     }
 }
 
-// The answer to a call, and the codes that the call's slice holds. It is shown as the line that answers the call.
+// What comes of a call, and the codes that the call's slice holds. It is shown as the line that answers the call.
 #[derive(Clone, Copy)]
 pub struct Answered<'a> {
-    pub answer: Answer,
+    pub outcome: Outcome,
     pub codes: &'a [u16],
 }
 
 impl fmt::Display for Answered<'_> {
-    ghost output = { λ a. Some (answer_text a.answer a.codes.now) };
+    ghost output = { λ a. Some (answer_text a.outcome a.codes.now) };
 
     fn fmt<W: fmt::Write>(&self, f: &mut fmt::Formatter<W>) -> fmt::Result {
-        match self.answer {
-            Answer::Pending => Ok(()),
-            Answer::Done => f.write_str("done"),
-            Answer::Refused(refusal) => {
+        match self.outcome {
+            Err(refusal) => {
                 let refused = Refused(refusal);
                 write!(f, "{refused}")
             }
-            Answer::Truth(yes, rounds) => {
+            Ok(Answer::Done) => f.write_str("done"),
+            Ok(Answer::Truth(yes, rounds)) => {
                 let word = yes_or_no(yes);
                 write!(f, "{word}, {rounds} rounds")
             }
-            Answer::Found(Some(code), rounds) => {
+            Ok(Answer::Found(Some(code), rounds)) => {
                 let found = Code(code);
                 write!(f, "{found}, {rounds} rounds")
             }
-            Answer::Found(None, rounds) => write!(f, "none, {rounds} rounds"),
-            Answer::Listed(count) => {
+            Ok(Answer::Found(None, rounds)) => write!(f, "none, {rounds} rounds"),
+            Ok(Answer::Listed(count)) => {
                 let listed = Moves(&self.codes[..count.min(self.codes.len())]);
                 write!(f, "{listed}")
             }
-            Answer::Tested(yes) => f.write_str(yes_or_no(yes)),
+            Ok(Answer::Tested(yes)) => f.write_str(yes_or_no(yes)),
         }
     }
 }
