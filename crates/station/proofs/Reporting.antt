@@ -1,15 +1,15 @@
 -- The loop over the steps: the answers so far, the law of the calls among them, and their lines in the buffer.
-use Rattle.std.proofs.Common.{◌≡◌, ℕ, zero, suc, ◌+◌, ◌*◌, ◌<◌, ◌≤◌, List, [], ◌∷◌, ◌++◌, length, drop, Some, None, Option, sym, refl, ap, ◌∙◌, subst, append_assoc, append-nil, add-one, arith, length-append}
+use Rattle.std.proofs.Common.{◌≡◌, ℕ, zero, suc, ◌+◌, ◌*◌, ◌<◌, ◌≤◌, List, [], ◌∷◌, ◌++◌, length, get_or, drop, Fits, w8, Some, None, Option, sym, refl, ap, ◌∙◌, subst, append_assoc, append-nil, add-one, arith, length-append}
 use Rattle.tables.specs.Meaning.{Meaning}
 use Rattle.stores.specs.Holding.{Holding}
 use Rattle.board.specs.Standing.{Limits, Stands}
 use Rattle.runs.specs.declared.calls.Ask.{Ask}
-use Rattle.runs.specs.declared.calls.Answer.{Answer}
-use Rattle.runs.specs.Law.{Event, standing, Law}
+use Rattle.runs.specs.Law.{Outcome, Event, standing, Law}
 use Rattle.runs.proofs.Stepping.{upright}
 use Rattle.runs.proofs.Runs.{law_none, law_more, standing_snoc}
 use Rattle.station.specs.Text.{Pours}
-use Rattle.station.specs.Edit.{shuttles_of, moves_of, count_of, step_at, steps_below}
+use Rattle.station.specs.Edit.{number_at, shuttles_of, moves_of, count_of, step_at, steps_below, header_told}
+use Rattle.station.specs.declared.edit.Header.{Header}
 use Rattle.station.specs.Report.{line, lines_from, first_line, report_of}
 use Rattle.station.specs.Station.{events, UnknownRefused, Reported, StepTaken}
 use Rattle.station.proofs.Pouring.{pours_more, pours_same, poured_front}
@@ -21,7 +21,7 @@ length_steps : (file : List ℕ) (c : ℕ) → length (steps_below file c) ≡ c
 length_steps file zero = refl
 length_steps file (suc c) = length-append (steps_below file c) (step_at file c ∷ []) ∙ omega (arith, length_steps file c)
 
-events_more : (steps : List (Option Ask)) (answers : List Answer) → length answers ≡ length steps → (s : Option Ask) (a : Answer)
+events_more : (steps : List (Option Ask)) (answers : List Outcome) → length answers ≡ length steps → (s : Option Ask) (a : Outcome)
     → events (steps ++ s ∷ []) (answers ++ a ∷ []) ≡ events steps answers ++ events (s ∷ []) (a ∷ [])
 events_more [] [] e s a = refl
 events_more [] (x ∷ answers) e s a = absurd (omega arith)
@@ -29,7 +29,7 @@ events_more (y ∷ steps) [] e s a = absurd (omega arith)
 events_more (None ∷ steps) (x ∷ answers) e s a = events_more steps answers (omega arith) s a
 events_more (Some q ∷ steps) (x ∷ answers) e s a = ap (λ es. record { ask = q; given = []; answer = x; left = [] } ∷ es) (events_more steps answers (omega arith) s a)
 
-unknown_more : (steps : List (Option Ask)) (answers : List Answer) → length answers ≡ length steps → (s : Option Ask) (a : Answer)
+unknown_more : (steps : List (Option Ask)) (answers : List Outcome) → length answers ≡ length steps → (s : Option Ask) (a : Outcome)
     → UnknownRefused steps answers → UnknownRefused (s ∷ []) (a ∷ []) → UnknownRefused (steps ++ s ∷ []) (answers ++ a ∷ [])
 unknown_more [] [] e s a u v = v
 unknown_more [] (x ∷ answers) e s a u v = absurd (omega arith)
@@ -37,7 +37,7 @@ unknown_more (y ∷ steps) [] e s a u v = absurd (omega arith)
 unknown_more (None ∷ steps) (x ∷ answers) e s a u v = (u.0, unknown_more steps answers (omega arith) s a u.1 v)
 unknown_more (Some q ∷ steps) (x ∷ answers) e s a u v = unknown_more steps answers (omega arith) s a u v
 
-lines_more : (i : ℕ) (answers : List Answer) (a : Answer) → lines_from i (answers ++ a ∷ []) ≡ lines_from i answers ++ line (i + length answers) a
+lines_more : (i : ℕ) (answers : List Outcome) (a : Outcome) → lines_from i (answers ++ a ∷ []) ≡ lines_from i answers ++ line (i + length answers) a
 lines_more i [] a = let e : i ≡ i + 0 = omega arith in append-nil (line i a) ∙ ap (λ n. line n a) e
 lines_more i (x ∷ answers) a =
     let e : suc i + length answers ≡ i + suc (length answers) = omega arith in
@@ -46,7 +46,7 @@ lines_more i (x ∷ answers) a =
 
 -- the first i steps are carried out, their lines are written up to `at`, and the board stands as they left it
 pub record Going (b : Limits) (file old : List ℕ) (i at : ℕ) (out : List ℕ) (m : Meaning) (h : Holding) : Type 0 where
-  pub answers : List Answer
+  pub answers : List Outcome
   pub size : length answers ≡ i
   pub unknown : UnknownRefused (steps_below file i) answers
   pub law : Law b (events (steps_below file i) answers)
@@ -55,10 +55,10 @@ pub record Going (b : Limits) (file old : List ℕ) (i at : ℕ) (out : List ℕ
   pub room : at ≤ 24 * (i + 1)
 
 module _ (b : Limits) (file old : List ℕ) where
-  -- k, n and c are the numbers of the file's header
-  pub going_none : (k n c : ℕ) → k ≡ shuttles_of file → n ≡ moves_of file → c ≡ count_of file → k < 65536 → n < 65536 → c < 65536
-      → (m : Meaning) (h : Holding) (out : List ℕ) (at : ℕ) → Stands b [] m h → Pours old 0 (first_line k n c) out at → Going b file old 0 at out m h
-  going_none k n c ek en ec lk ln lc m h out at st p = record {
+  -- the first line tells the file's header
+  pub going_none : (x : Header) → x ≡ header_told file → ((p : ℕ) → Fits w8 (get_or file p 0))
+      → (m : Meaning) (h : Holding) (out : List ℕ) (at : ℕ) → Stands b [] m h → Pours old 0 (first_line x.shuttles x.moves x.steps) out at → Going b file old 0 at out m h
+  going_none x e fit m h out at st p = record {
     answers = [];
     size = refl;
     unknown = tt;
@@ -66,10 +66,13 @@ module _ (b : Limits) (file old : List ℕ) where
     stands = st;
     written = pours_same
         (append-nil (first_line (shuttles_of file) (moves_of file) (count_of file))
-        ∙ sym (ap (λ x. first_line x n c) ek ∙ ap (λ x. first_line (shuttles_of file) x c) en ∙ ap (first_line (shuttles_of file) (moves_of file)) ec))
+        ∙ sym (ap (λ (y : Header). first_line y.shuttles y.moves y.steps) e))
         p;
-    room = omega (arith, p.next, first_line_short k n c lk ln lc);
+    room = omega (arith, p.next, first_line_short x.shuttles x.moves x.steps (fits_in 0 x.shuttles (ap (λ (y : Header). y.shuttles) e)) (fits_in 2 x.moves (ap (λ (y : Header). y.moves) e)) (fits_in 4 x.steps (ap (λ (y : Header). y.steps) e)));
   }
+    where
+      fits_in : (q y : ℕ) → y ≡ number_at file q → y < 65536
+      fits_in q y is = omega (arith, fit q, fit (q + 1))
 
   module _ {i at : ℕ} {out : List ℕ} {m : Meaning} {h : Holding} (g : Going b file old i at out m h) (few : b.shuttles ≤ 16) where
     same_size : length g.answers ≡ length (steps_below file i)
@@ -79,15 +82,15 @@ module _ (b : Limits) (file old : List ℕ) where
     before_it = events (steps_below file i) g.answers
 
     -- the answer is small, so that its line has at most 24 bytes
-    taken_small : (s : Option Ask) (a : Answer) (m' : Meaning) (h' : Holding) → StepTaken m h s a m' h' → Small a
+    taken_small : (s : Option Ask) (a : Outcome) (m' : Meaning) (h' : Holding) → StepTaken m h s a m' h' → Small a
     taken_small None a m' h' t = subst Small (sym t.0) tt
     taken_small (Some q) a m' h' t = answered_small b (standing before_it) g.stands.sound few q [] a [] (t.keeps b (standing before_it) g.stands).0
 
-    abbrev More : Option Ask → Answer → Meaning → Holding → Type 0
+    abbrev More : Option Ask → Outcome → Meaning → Holding → Type 0
     More s a m' h' =
         UnknownRefused (s ∷ []) (a ∷ []) × Law b (before_it ++ events (s ∷ []) (a ∷ [])) × Stands b (standing (before_it ++ events (s ∷ []) (a ∷ []))) m' h'
 
-    more : (s : Option Ask) (a : Answer) (m' : Meaning) (h' : Holding) → StepTaken m h s a m' h' → More s a m' h'
+    more : (s : Option Ask) (a : Outcome) (m' : Meaning) (h' : Holding) → StepTaken m h s a m' h' → More s a m' h'
     more None a m' h' t = (
       (t.0, tt),
       subst (Law b) (sym (append-nil before_it)) g.law,
@@ -101,7 +104,7 @@ module _ (b : Limits) (file old : List ℕ) where
           subst (λ V. Stands b V m' h') (sym (standing_snoc [] before_it (record { ask = q; given = []; answer = a; left = [] }))) k.1,
         )
 
-    pub going_more : (a : Answer) (m' : Meaning) (h' : Holding) (out' : List ℕ) (at' : ℕ) → i < 9999 → StepTaken m h (step_at file i) a m' h' → Pours out at (line (i + 1) a) out' at'
+    pub going_more : (a : Outcome) (m' : Meaning) (h' : Holding) (out' : List ℕ) (at' : ℕ) → i < 9999 → StepTaken m h (step_at file i) a m' h' → Pours out at (line (i + 1) a) out' at'
         → Going b file old (i + 1) at' out' m' h'
     going_more a m' h' out' at' li t p =
         let x = more (step_at file i) a m' h' t in

@@ -14,9 +14,8 @@ use Rattle.questions.proofs.Inside.{question_on}
 use Rattle.board.specs.Standing.{Limits, Waits, Sound, lengths, Nearest, Found, Tells, remove_gives}
 use Rattle.runs.specs.declared.calls.Ask.{Ask}
 use Rattle.runs.specs.declared.calls.Ask.TheVariants.{Place, Remove, Before as IsBefore, FirstAfter, LastBefore, List as ListMoves, Push as PushMove, Test as TestOrder}
-use Rattle.runs.specs.declared.calls.Answer.{Answer}
-use Rattle.runs.specs.declared.calls.Answer.TheVariants.{Pending, Done, Refused, Truth, Found as Found_at, Listed, Tested}
-use Rattle.runs.specs.Law.{Answered, done_answer, truth_answer, found_answer, count_answer}
+use Rattle.runs.specs.declared.calls.Answer.TheVariants.{Done, Truth, Found as Found_at, Listed, Tested}
+use Rattle.runs.specs.Law.{Outcome, Answered, done_answer, truth_answer, found_answer, count_answer}
 use Rattle.station.specs.Report.{returned_number, finding_text, line, first_line}
 
 number_small : (e : Refusal) → number_of e < 100
@@ -33,14 +32,9 @@ number_small BadForm = omega arith
 number_small BadSize = omega arith
 number_small NoSuchKind = omega arith
 
-returned_small : (a : Answer) → returned_number a < 100
-returned_small Pending = omega arith
-returned_small Done = omega arith
-returned_small (Refused e) = number_small e
-returned_small (Truth y c) = omega arith
-returned_small (Found_at o c) = omega arith
-returned_small (Listed n) = omega arith
-returned_small (Tested y) = omega arith
+returned_small : (a : Outcome) → returned_number a < 100
+returned_small (Ok a) = omega arith
+returned_small (Err e) = number_small e
 
 two_digits : (n : ℕ) → n < 100 → length (decimal n) ≤ 2
 two_digits n l = length-decimal-le 2 n (omega arith) (omega arith) (omega arith)
@@ -52,28 +46,26 @@ five_digits : (n : ℕ) → n < 65536 → length (decimal n) ≤ 5
 five_digits n l = length-decimal-le 5 n (omega arith) (omega arith) (omega arith)
 
 -- the answer holds a 16-bit code, and fewer than 100 rounds
-abbrev pub Small : Answer → Type 0
-Small Pending = Unit {0}
-Small Done = Unit {0}
-Small (Refused e) = Unit {0}
-Small (Truth y c) = c < 100
-Small (Found_at None c) = c < 100
-Small (Found_at (Some u) c) = (u < 65536) × (c < 100)
-Small (Listed n) = Unit {0}
-Small (Tested y) = Unit {0}
+abbrev pub Small : Outcome → Type 0
+Small (Ok Done) = Unit {0}
+Small (Ok (Truth y c)) = c < 100
+Small (Ok (Found_at None c)) = c < 100
+Small (Ok (Found_at (Some u) c)) = (u < 65536) × (c < 100)
+Small (Ok (Listed n)) = Unit {0}
+Small (Ok (Tested y)) = Unit {0}
+Small (Err e) = Unit {0}
 
-finding_short : (a : Answer) → Small a → length (finding_text a) ≤ 16
-finding_short Pending s = omega arith
-finding_short Done s = omega arith
-finding_short (Refused e) s = omega arith
-finding_short (Truth y c) s = omega (arith, two_digits c s)
-finding_short (Found_at None c) s = omega (arith, two_digits c s)
-finding_short (Found_at (Some u) c) s =
+finding_short : (a : Outcome) → Small a → length (finding_text a) ≤ 16
+finding_short (Ok Done) s = omega arith
+finding_short (Ok (Truth y c)) s = omega (arith, two_digits c s)
+finding_short (Ok (Found_at None c)) s = omega (arith, two_digits c s)
+finding_short (Ok (Found_at (Some u) c)) s =
     simp length-append (omega (arith, two_digits c s.1, two_digits (u / 4096) (omega (arith, s.0)), four_digits (u % 4096) (omega arith)))
-finding_short (Listed n) s = omega arith
-finding_short (Tested y) s = omega arith
+finding_short (Ok (Listed n)) s = omega arith
+finding_short (Ok (Tested y)) s = omega arith
+finding_short (Err e) s = omega arith
 
-pub line_short : (i : ℕ) (a : Answer) → i < 10000 → Small a → length (line i a) ≤ 24
+pub line_short : (i : ℕ) (a : Outcome) → i < 10000 → Small a → length (line i a) ≤ 24
 line_short i a l s = simp length-append (omega (arith, four_digits i l, two_digits (returned_number a) (returned_small a), finding_short a s))
 
 pub first_line_short : (k n c : ℕ) → k < 65536 → n < 65536 → c < 65536 → length (first_line k n c) ≤ 24
@@ -98,17 +90,17 @@ module _ (b : Limits) (W : Waits) (h : Sound b W) (few : b.shuttles ≤ 16) wher
   nearest_on After u t p on x = on_after b.shuttles (lengths b) W h.ordered.0 h.ordered.1 x.0 on
   nearest_on Ahead u t p on x = on_before b.shuttles (lengths b) W h.ordered.0 h.ordered.1 x.0 on
 
-  coded_small : (w : Way) (u t c : ℕ) → On b.shuttles (lengths b) (move_of u) → (p : Option ℕ) → Nearest w b W (move_of u) t p → c < b.shuttles → Small (Found_at (coded t p) c)
+  coded_small : (w : Way) (u t c : ℕ) → On b.shuttles (lengths b) (move_of u) → (p : Option ℕ) → Nearest w b W (move_of u) t p → c < b.shuttles → Small (Ok (Found_at (coded t p) c))
   coded_small w u t c on None x l = omega arith
   coded_small w u t c on (Some p) x l = let o = nearest_on w u t p on x in let s = h.small in (omega (arith, o.0, o.1), omega arith)
 
   found_small : (w : Way) (u t : ℕ) (r : Result (Option ℕ) Refusal) (c : ℕ) → Found w b W u t r c → Small (found_answer r c)
   found_small w u t (Ok o) c f =
       let on = question_on b.shuttles b.moves u t f.0 in
-      subst (λ x. Small (Found_at x c)) (sym f.1.1) (coded_small w u t c on.0 f.1.0 f.1.2 f.2.1)
+      subst (λ x. Small (Ok (Found_at x c))) (sym f.1.1) (coded_small w u t c on.0 f.1.0 f.1.2 f.2.1)
   found_small w u t (Err e) c f = tt
 
-  pub answered_small : (q : Ask) (old : List ℕ) (a : Answer) (new : List ℕ) → Answered b W q old a new → Small a
+  pub answered_small : (q : Ask) (old : List ℕ) (a : Outcome) (new : List ℕ) → Answered b W q old a new → Small a
   answered_small (Place u v) old a new x = subst Small (sym x.0.1) (done_small x.0.0)
   answered_small (Remove u v) old a new x = subst Small (sym x.0) (done_small (remove_gives b W u v))
   answered_small (IsBefore u v) old a new x = subst Small (sym x.0.2) (truth_small u v x.0.0 x.0.1 x.0.3)

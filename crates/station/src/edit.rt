@@ -1,53 +1,72 @@
 // The edit file: its checks, and its steps as calls.
-ghost use Rattle.std.specs.Prelude.{◌≡◌, ◌+◌, ◌*◌, ◌<◌, ◌≤◌, true, length};
-ghost use Rattle.station.specs.Edit.{number_at, well_formed, sizes_taken, file_check, step_of, step_at, count_of, header_of, step_told};
+ghost use Rattle.std.specs.Prelude.{◌≡◌, ◌+◌, ◌*◌, ◌<◌, ◌≤◌, length};
+ghost use Rattle.station.specs.Edit.{number_at, well_formed, sizes_within, header_taken, step_of, step_at, header_of, step_told};
 
 use runs::calls::Ask;
 use words::Refusal;
 
 // The 16-bit number at a byte's place, high byte first.
-pub(crate) fn number(file: &[u8], at: usize) -> u16
+fn number(file: &[u8], at: usize) -> u16
     requires { at + 1 < length file.now }
     ensures { result ≡ number_at file.now at }
 {
-    file[at] as u16 * 256 + file[at + 1] as u16
+    u16::from_be_bytes([file[at], file[at + 1]])
 }
 
+#[tactic(auto, using(std::proofs::lemmas::Bool::Decides::nat_tests), unfolding(crate::specs::Edit::well_formed))]
 fn is_well_formed(file: &[u8]) -> bool
     ensures { result ≡ well_formed file.now }
 {
-    if file.len() < 8 || file.len() > 16384 {
+    if !(8..=16384).contains(&file.len()) {
         return false;
     }
     file.len() == 8 + 6 * number(file, 4) as usize && number(file, 6) == 8
 }
 
-fn has_sizes(file: &[u8]) -> bool
-    requires { 8 ≤ length file.now }
-    ensures { result ≡ sizes_taken file.now }
-{
-    let k = number(file, 0);
-    let n = number(file, 2);
-    1 <= k && k <= 4 && 1 <= n && n <= 256
+// What the header of an edit file says.
+#[derive(Clone, Copy)]
+pub struct Header {
+    pub shuttles: u16,
+    pub moves: u16,
+    pub steps: u16,
 }
 
-// Whether the call is taken.
-pub(crate) fn check_file(kind: u32, file: &[u8], room: usize) -> Result<(), Refusal>
-    ensures { result ≡ file_check kind file.now room }
+impl Header {
+    fn has_sizes(self) -> bool
+        ensures { result ≡ sizes_within self.shuttles self.moves }
+    {
+        (1..=4).contains(&self.shuttles) && (1..=256).contains(&self.moves)
+    }
+}
+
+// The header of the file; none where it is badly formed.
+#[tactic(auto, using(crate::proofs::Files::some_bytes))]
+pub fn read_header(file: &[u8]) -> Option<Header>
+    ensures { result ≡ header_of file.now }
 {
-    if kind > 1 {
-        return Err(Refusal::NoSuchKind);
-    }
     if !is_well_formed(file) {
-        return Err(Refusal::BadForm);
+        return None;
     }
-    if !has_sizes(file) {
+    Some(Header {
+        shuttles: number(file, 0),
+        moves: number(file, 2),
+        steps: number(file, 4),
+    })
+}
+
+// The header of a file that is taken, where the buffer has room for its report.
+#[tactic(auto, using(crate::proofs::Files::refused_sizes, crate::proofs::Files::refused_room, crate::proofs::Files::header_goes))]
+pub(crate) fn check_file(file: &[u8], room: usize) -> Result<Header, Refusal>
+    ensures { result ≡ header_taken file.now room }
+{
+    let header = read_header(file).ok_or(Refusal::BadForm)?;
+    if !header.has_sizes() {
         return Err(Refusal::BadSize);
     }
-    if room < 24 * (number(file, 4) as usize + 1) {
+    if room < 24 * (header.steps as usize + 1) {
         return Err(Refusal::TooShort);
     }
-    Ok(())
+    Ok(header)
 }
 
 fn ask_of(kind: u16, x: u16, y: u16) -> Option<Ask>
@@ -70,28 +89,6 @@ pub(crate) fn ask_at(file: &[u8], i: usize) -> Option<Ask>
 {
     let at = 8 + 6 * i;
     ask_of(number(file, at), number(file, at + 2), number(file, at + 4))
-}
-
-// What the header of an edit file says.
-#[derive(Clone, Copy)]
-pub struct Header {
-    pub shuttles: u16,
-    pub moves: u16,
-    pub steps: u16,
-}
-
-// The header of the file; none where it is badly formed.
-pub fn read_header(file: &[u8]) -> Option<Header>
-    ensures { result ≡ header_of file.now }
-{
-    if !is_well_formed(file) {
-        return None;
-    }
-    Some(Header {
-        shuttles: number(file, 0),
-        moves: number(file, 2),
-        steps: number(file, 4),
-    })
 }
 
 // The step number i of the file as a call; none where the file ends before it, or its kind is not known.

@@ -3,83 +3,93 @@ ghost use Rattle.std.specs.Prelude.{◌≡◌, ◌+◌, ◌^◌, ◌<◌, ◌≤
 ghost use Rattle.station.specs.Text.{Pours};
 ghost use Rattle.station.specs.Report.{next_number, returned_number, move_text, finding_text, line, first_line};
 
-use crate::text::{put_byte, put_number};
-use runs::calls::Answer;
-
-// Writes a blank and a number.
-fn put_next(out: &mut [u8], at: usize, n: u32) -> usize
-    requires { at < 2 ^ 31 }
-    ensures written { Pours out.old at (next_number n) out.new result }
-    ensures short { result ≤ at + 11 }
-{
-    let next = put_byte(out, at, b' ');
-    put_number(out, next, n)
-}
+use crate::edit::Header;
+use crate::text::Page;
+use runs::calls::{Answer, Outcome};
+use words::moves::Code;
 
 // The number that the call returned.
-fn returned(answer: Answer) -> u32
-    ensures { result ≡ returned_number answer }
+fn returned(outcome: Outcome) -> u32
+    ensures { result ≡ returned_number outcome }
 {
-    match answer {
-        Answer::Refused(e) => e.number() as u32,
-        _ => 0,
+    match outcome {
+        Ok(_) => 0,
+        Err(e) => e.number() as u32,
     }
 }
 
-// Writes a move as s.i, or - for none.
-fn put_move(out: &mut [u8], at: usize, found: Option<u16>) -> usize
-    requires { at < 2 ^ 30 }
-    ensures written { Pours out.old at (move_text found) out.new result }
-    ensures short { result ≤ at + 21 }
-{
-    match found {
-        None => put_byte(out, at, b'-'),
-        Some(u) => {
-            let dot = put_number(out, at, (u / 4096) as u32);
-            let place = put_byte(out, dot, b'.');
-            put_number(out, place, (u % 4096) as u32)
+impl<'a> Page<'a> {
+    // Writes a blank and a number.
+    fn put_next(&mut self, n: u32)
+        requires { self.old.end < 2 ^ 31 }
+        ensures same_bytes { self.new.bytes.ghost_name ≡ self.old.bytes.ghost_name }
+        ensures written { Pours self.old.bytes.now self.old.end (next_number n) self.new.bytes.now self.new.end }
+        ensures short { self.new.end ≤ self.old.end + 11 }
+    {
+        self.put_byte(b' ');
+        self.put_number(n);
+    }
+
+    // Writes a move as s.i, or - for none.
+    fn put_move(&mut self, found: Option<u16>)
+        requires { self.old.end < 2 ^ 30 }
+        ensures same_bytes { self.new.bytes.ghost_name ≡ self.old.bytes.ghost_name }
+        ensures written { Pours self.old.bytes.now self.old.end (move_text found) self.new.bytes.now self.new.end }
+        ensures short { self.new.end ≤ self.old.end + 21 }
+    {
+        match found {
+            None => self.put_byte(b'-'),
+            Some(u) => {
+                self.put_number(Code(u).shuttle() as u32);
+                self.put_byte(b'.');
+                self.put_number(Code(u).place() as u32);
+            }
         }
     }
-}
 
-// Writes what a question that is taken adds to its line.
-fn put_finding(out: &mut [u8], at: usize, answer: Answer) -> usize
-    requires { at < 2 ^ 29 }
-    ensures written { Pours out.old at (finding_text answer) out.new result }
-    ensures short { result ≤ at + 33 }
-{
-    match answer {
-        Answer::Truth(yes, rounds) => {
-            let first = put_byte(out, at, b' ');
-            let second = put_byte(out, first, if yes { b'1' } else { b'0' });
-            put_next(out, second, rounds)
+    // Writes what a question that is taken adds to its line.
+    fn put_finding(&mut self, outcome: Outcome)
+        requires { self.old.end < 2 ^ 29 }
+        ensures same_bytes { self.new.bytes.ghost_name ≡ self.old.bytes.ghost_name }
+        ensures written { Pours self.old.bytes.now self.old.end (finding_text outcome) self.new.bytes.now self.new.end }
+        ensures short { self.new.end ≤ self.old.end + 33 }
+    {
+        match outcome {
+            Ok(Answer::Truth(yes, rounds)) => {
+                self.put_byte(b' ');
+                self.put_byte(if yes { b'1' } else { b'0' });
+                self.put_next(rounds);
+            }
+            Ok(Answer::Found(found, rounds)) => {
+                self.put_byte(b' ');
+                self.put_move(found);
+                self.put_next(rounds);
+            }
+            _ => {}
         }
-        Answer::Found(found, rounds) => {
-            let first = put_byte(out, at, b' ');
-            let second = put_move(out, first, found);
-            put_next(out, second, rounds)
-        }
-        _ => at,
     }
-}
 
-// Writes the line of the step with this number.
-pub(crate) fn put_line(out: &mut [u8], at: usize, number: u32, answer: Answer) -> usize
-    requires { at < 2 ^ 28 }
-    ensures { Pours out.old at (line number answer) out.new result }
-{
-    let first = put_number(out, at, number);
-    let second = put_next(out, first, returned(answer));
-    let third = put_finding(out, second, answer);
-    put_byte(out, third, b'\n')
-}
+    // Writes the line of the step with this number.
+    pub(crate) fn put_line(&mut self, number: u32, outcome: Outcome)
+        requires { self.old.end < 2 ^ 28 }
+        ensures same_bytes { self.new.bytes.ghost_name ≡ self.old.bytes.ghost_name }
+        ensures written { Pours self.old.bytes.now self.old.end (line number outcome) self.new.bytes.now self.new.end }
+    {
+        self.put_number(number);
+        self.put_next(returned(outcome));
+        self.put_finding(outcome);
+        self.put_byte(b'\n');
+    }
 
-// Writes the first line.
-pub(crate) fn put_first_line(out: &mut [u8], shuttles: u16, moves: u16, steps: u16) -> usize
-    ensures { Pours out.old 0 (first_line shuttles moves steps) out.new result }
-{
-    let first = put_number(out, 0, shuttles as u32);
-    let second = put_next(out, first, moves as u32);
-    let third = put_next(out, second, steps as u32);
-    put_byte(out, third, b'\n')
+    // Writes the first line.
+    pub(crate) fn put_first_line(&mut self, header: Header)
+        requires { self.old.end < 2 ^ 28 }
+        ensures same_bytes { self.new.bytes.ghost_name ≡ self.old.bytes.ghost_name }
+        ensures written { Pours self.old.bytes.now self.old.end (first_line header.shuttles header.moves header.steps) self.new.bytes.now self.new.end }
+    {
+        self.put_number(header.shuttles as u32);
+        self.put_next(header.moves as u32);
+        self.put_next(header.steps as u32);
+        self.put_byte(b'\n');
+    }
 }

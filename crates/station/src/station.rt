@@ -1,15 +1,16 @@
 // The call of the planning station.
-ghost use Rattle.std.specs.Prelude.{◌≡◌, ◌+◌, ◌*◌, ◌<◌, ◌≤◌, true, [], length};
+ghost use Rattle.std.specs.Prelude.{◌≡◌, ◌+◌, ◌*◌, ◌<◌, ◌≤◌, true, [], length, IfOk};
+ghost use Rattle.words.specs.Refusals.{then};
 ghost use Rattle.board.specs.Standing.{limits};
 ghost use Rattle.runs.specs.Law.{StepKeeps};
-ghost use Rattle.station.specs.Edit.{well_formed, count_of, step_at};
-ghost use Rattle.station.specs.Station.{Reported, Station, ReportsAlike, StepTaken, Taken, Made};
+ghost use Rattle.station.specs.Edit.{well_formed, count_of, step_at, kind_check, form_check, header_told};
+ghost use Rattle.station.specs.Station.{Reported, Reports, KindsAlike, Station, ReportsAlike, StepTaken, Taken, Made, MadeWhere, empty_table};
 
-use crate::edit::{ask_at, check_file, number};
-use crate::lines::{put_first_line, put_line};
+use crate::edit::{Header, ask_at, check_file};
+use crate::text::Page;
 use board::board::Board;
 use fulltree::full::FullTree;
-use runs::calls::{Answer, Ask};
+use runs::calls::{Ask, Outcome};
 use runs::steps::step;
 use stores::loose::Loose;
 use stores::store::Store;
@@ -17,9 +18,10 @@ use stores::wait::Wait;
 use tables::plain::Plain;
 use tables::table::Table;
 use words::Refusal;
+use words::kinds::TableKind;
 
 // Makes a call that has no slice.
-fn make_call<T: Table, S: Store>(board: &mut Board<T, S>, ask: Ask) -> Answer
+fn make_call<T: Table, S: Store>(board: &mut Board<T, S>, ask: Ask) -> Outcome
     ensures { StepKeeps (T.Table.meaning board.old.table) (S.Store.holding board.old.store) ask [] result [] (T.Table.meaning board.new.table) (S.Store.holding board.new.store) }
 {
     let mut slice: [u16; 0] = [];
@@ -27,13 +29,13 @@ fn make_call<T: Table, S: Store>(board: &mut Board<T, S>, ask: Ask) -> Answer
 }
 
 // Makes the call of one step; a step whose kind is not known is refused alone.
-fn take_step<T: Table, S: Store>(board: &mut Board<T, S>, file: &[u8], i: usize) -> Answer
+fn take_step<T: Table, S: Store>(board: &mut Board<T, S>, file: &[u8], i: usize) -> Outcome
     requires { (13 + 6 * i < length file.now) × (i < 65536) }
     ensures { StepTaken (T.Table.meaning board.old.table) (S.Store.holding board.old.store) (step_at file.now i) result (T.Table.meaning board.new.table) (S.Store.holding board.new.store) }
 {
     match ask_at(file, i) {
         Some(ask) => make_call(board, ask),
-        None => Answer::Refused(Refusal::BadForm),
+        None => Err(Refusal::BadForm),
     }
 }
 
@@ -41,22 +43,24 @@ fn take_step<T: Table, S: Store>(board: &mut Board<T, S>, file: &[u8], i: usize)
 fn write_report<T: Table + Drop, S: Store + Drop>(
     table: T,
     store: S,
+    header: Header,
     file: &[u8],
     report: &mut [u8],
 ) -> usize
+    requires told { header ≡ header_told file.now }
     requires formed { well_formed file.now ≡ true }
     requires room { 24 * (count_of file.now + 1) ≤ length report.old }
     ensures reported { Reported (limits (T.Table.meaning table) (S.Store.holding store)) file.now report.old report.new result }
     ensures short { result ≤ 24 * (count_of file.now + 1) }
 {
     let mut board = Board::make(table, store);
-    let steps = number(file, 4);
-    let mut at = put_first_line(report, number(file, 0), number(file, 2), steps);
-    for i in 0..steps {
-        let answer = take_step(&mut board, file, i as usize);
-        at = put_line(report, at, i as u32 + 1, answer);
+    let mut page = Page::over(report);
+    page.put_first_line(header);
+    for i in 0..header.steps {
+        let outcome = take_step(&mut board, file, i as usize);
+        page.put_line(i as u32 + 1, outcome);
     }
-    at
+    page.end
 }
 
 // The numbers of the largest plain table that the station takes: 4 shuttles, 256 moves.
@@ -71,46 +75,72 @@ const WAITS: usize = 1024;
 // What a refusal is marked with: the returned number is this one plus the refusal's.
 const REFUSED: u32 = 2147483648;
 
-// The report on a file that is taken, over a plain table.
-fn plain_report(file: &[u8], report: &mut [u8]) -> usize
-    requires { Taken file.now (length report.old) }
+// The report on a file that is taken, over an empty table of its sizes.
+#[tactic(auto, using(crate::proofs::Taken::made_over))]
+fn report_over<T: Table + Drop>(table: T, header: Header, file: &[u8], report: &mut [u8]) -> usize
+    requires told { header ≡ header_told file.now }
+    requires taken { Taken file.now (length report.old) }
+    requires empty { T.Table.meaning table ≡ empty_table file.now }
     ensures { Made file.now report.old report.new result }
 {
-    let mut cells = [0u16; PLAIN];
     let mut records = [Wait {
         first: 0,
         second: 0,
     }; WAITS];
-    let table = Plain::make(number(file, 0), number(file, 2), &mut cells);
-    write_report(table, Loose::make(&mut records), file, report)
+    write_report(table, Loose::make(&mut records), header, file, report)
+}
+
+// The checks and the report over a plain table. It has a function of its own, as the full tree has, so that one call's stack need not hold the numbers of both.
+#[tactic(auto, using(crate::proofs::Taken::plain_empty, crate::proofs::Taken::header_takes, crate::proofs::Taken::header_is))]
+fn plain_report(file: &[u8], report: &mut [u8]) -> Result<usize, Refusal>
+    ensures { MadeWhere (form_check file.now (length report.old)) file.now report.old report.new result }
+{
+    let header = check_file(file, report.len())?;
+    let mut cells = [0u16; PLAIN];
+    let table = Plain::make(header.shuttles, header.moves, &mut cells);
+    Ok(report_over(table, header, file, report))
 }
 
 // The same over a full tree.
-fn full_report(file: &[u8], report: &mut [u8]) -> usize
-    requires { Taken file.now (length report.old) }
-    ensures { Made file.now report.old report.new result }
+#[tactic(auto, using(crate::proofs::Taken::full_empty, crate::proofs::Taken::header_takes, crate::proofs::Taken::header_is))]
+fn full_report(file: &[u8], report: &mut [u8]) -> Result<usize, Refusal>
+    ensures { MadeWhere (form_check file.now (length report.old)) file.now report.old report.new result }
 {
+    let header = check_file(file, report.len())?;
     let mut cells = [0u16; FULL];
-    let mut records = [Wait {
-        first: 0,
-        second: 0,
-    }; WAITS];
-    let table = FullTree::make(number(file, 0), number(file, 2), &mut cells);
-    write_report(table, Loose::make(&mut records), file, report)
+    let table = FullTree::make(header.shuttles, header.moves, &mut cells);
+    Ok(report_over(table, header, file, report))
 }
 
-// Reports on an edit file: returns the report's length, or 2,147,483,648 plus the refusal, which leaves every byte of the buffer as it was.
+// The same over a table of this kind.
+fn report_by(kind: TableKind, file: &[u8], report: &mut [u8]) -> Result<usize, Refusal>
+    ensures { MadeWhere (then (kind_check kind) (form_check file.now (length report.old))) file.now report.old report.new result }
+{
+    match kind {
+        TableKind::Plain => plain_report(file, report),
+        TableKind::Full => full_report(file, report),
+        TableKind::Sparse => Err(Refusal::NoSuchKind),
+    }
+}
+
+// Reports on an edit file: the report's length, or why it is refused, which leaves every byte of the buffer as it was.
+#[tactic(auto, using(crate::proofs::Taken::kind_known, crate::proofs::Taken::reports_by, crate::proofs::Taken::report_fits, crate::proofs::Alike::kinds_alike))]
+pub fn report(kind: u32, file: &[u8], report: &mut [u8]) -> Result<usize, Refusal>
+    ensures answers { Reports kind file.now report.old report.new result }
+    ensures alike { KindsAlike kind file.now report.old report.new result }
+    ensures fits { IfOk result (λ r. r ≤ length report.new) }
+{
+    report_by(TableKind::try_from(kind)?, file, report)
+}
+
+// The same for callers outside the library: the report's length, or 2,147,483,648 plus the refusal.
+#[tactic(auto, using(crate::proofs::Taken::report_small, crate::proofs::Taken::station_made, crate::proofs::Taken::station_refused, crate::proofs::Alike::reports_alike))]
 pub fn soguapy_report(kind: u32, file: &[u8], report: &mut [u8]) -> u32
     ensures answers { Station kind file.now report.old report.new result }
     ensures alike { ReportsAlike kind file.now report.old report.new result }
 {
-    if let Err(e) = check_file(kind, file, report.len()) {
-        return REFUSED + e.number() as u32;
+    match self::report(kind, file, report) {
+        Ok(length) => length as u32,
+        Err(refusal) => REFUSED + refusal.number() as u32,
     }
-    let length = if kind == 0 {
-        plain_report(file, report)
-    } else {
-        full_report(file, report)
-    };
-    length as u32
 }
