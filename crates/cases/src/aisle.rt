@@ -1,11 +1,12 @@
 // A run on an aisle of three shuttles with three moves: lists, pushes and tests with 0.1 -> 1.1 and 1.2 -> 2.0.
-use runs::calls::{Answer, Ask, Call};
+use runs::calls::{Answer, Ask, Call, Outcome};
 use runs::replays::replay;
 use std::alloc::Global;
 use std::test::Fail;
 use stores::loose::Loose;
 use stores::wait::Wait;
 use tables::plain::Plain;
+use words::Refusal;
 
 // A call with a slice of so many codes, all 7.
 fn call(heap: Global, ask: Ask, size: usize) -> Result<Call, Fail> {
@@ -13,24 +14,13 @@ fn call(heap: Global, ask: Ask, size: usize) -> Result<Call, Fail> {
     Ok(Call {
         ask,
         slice,
-        answer: Answer::Pending,
+        answer: None,
     })
 }
 
 fn add(calls: &mut Vec<Call>, heap: Global, ask: Ask, size: usize) -> Result<(), Fail> {
     calls.push(call(heap, ask, size)?)?;
     Ok(())
-}
-
-// What the call returned, as one number: 0 for done, the refusal, 100 + the count, 200 + yes or no, or 999.
-fn returned(call: &Call) -> usize {
-    match call.answer {
-        Answer::Done => 0,
-        Answer::Refused(e) => e.number() as usize,
-        Answer::Listed(n) => n.saturating_add(100),
-        Answer::Tested(yes) => if yes { 201 } else { 200 },
-        _ => 999,
-    }
 }
 
 // Runs the calls on a board over a plain table and a loose list.
@@ -44,9 +34,12 @@ fn run(calls: &mut [Call]) {
     replay(table, Loose::make(&mut records), calls);
 }
 
-// Whether the call returned this, and its slice holds these codes.
-fn is(calls: &[Call], i: usize, number: usize, codes: &[u16]) -> bool {
-    i < calls.len() && returned(&calls[i]) == number && calls[i].slice.as_slice() == codes
+// Whether the call left this, and its slice holds these codes.
+fn is(calls: &[Call], i: usize, outcome: Outcome, codes: &[u16]) -> bool {
+    match calls.get(i) {
+        Some(call) => call.answer == Some(outcome) && call.slice.as_slice() == codes,
+        None => false,
+    }
 }
 
 #[test]
@@ -62,14 +55,14 @@ fn lists_and_pushes(rt: HostRuntime) -> Result<(), Fail> {
     add(&mut calls, heap, Ask::Test, 9)?;
     run(calls.as_mut_slice());
     assert!(rt;
-        is(calls.as_slice(), 1, 0, &[7]),
+        is(calls.as_slice(), 1, Ok(Answer::Done), &[7]),
         "a placement leaves its slice"
     );
     assert!(rt;
         is(
             calls.as_slice(),
             2,
-            109,
+            Ok(Answer::Listed(9)),
             &[0, 1, 2, 4096, 4097, 4098, 8192, 8193, 8194, 7],
         )
     );
@@ -77,34 +70,31 @@ fn lists_and_pushes(rt: HostRuntime) -> Result<(), Fail> {
         is(
             calls.as_slice(),
             3,
-            109,
+            Ok(Answer::Listed(9)),
             &[0, 1, 4096, 4097, 4098, 8192, 2, 8193, 8194],
         )
     );
     assert!(rt;
-        is(calls.as_slice(), 4, 9, &[7, 7, 7, 7, 7, 7, 7, 7]),
+        is(calls.as_slice(), 4, Err(Refusal::TooShort), &[7, 7, 7, 7, 7, 7, 7, 7]),
         "a short slice stays"
     );
     assert!(rt;
-        is(calls.as_slice(), 5, 2, &[]),
+        is(calls.as_slice(), 5, Err(Refusal::NoSuchPlace), &[]),
         "the move before the slice"
     );
-    assert!(rt; is(calls.as_slice(), 6, 200, &[7, 7, 7, 7, 7, 7, 7, 7, 7]));
+    assert!(rt; is(calls.as_slice(), 6, Ok(Answer::Tested(false)), &[7, 7, 7, 7, 7, 7, 7, 7, 7]));
     Ok(())
 }
 
-fn set(slice: &mut [u16], codes: &[u16]) {
-    for i in 0..slice.len() {
-        if i < codes.len() {
-            slice[i] = codes[i];
-        }
-    }
-}
-
+// A call that tests these codes.
 fn test_call(heap: Global, codes: &[u16]) -> Result<Call, Fail> {
-    let mut it = call(heap, Ask::Test, codes.len())?;
-    set(it.slice.as_mut_slice(), codes);
-    Ok(it)
+    let mut slice = Vec::new(heap);
+    slice.extend_from_slice(codes)?;
+    Ok(Call {
+        ask: Ask::Test,
+        slice,
+        answer: None,
+    })
 }
 
 #[test]
@@ -118,9 +108,9 @@ fn tests(rt: HostRuntime) -> Result<(), Fail> {
     calls.push(test_call(heap, &[4096, 0, 1, 8192, 8193, 2, 4097, 4098, 4098])?)?;
     run(calls.as_mut_slice());
     assert!(rt; calls.len() == 5);
-    assert_eq!(rt; returned(&calls[1]), 201);
-    assert_eq!(rt; returned(&calls[2]), 200, "the wait is not kept");
-    assert_eq!(rt; returned(&calls[3]), 200, "another length");
-    assert_eq!(rt; returned(&calls[4]), 200, "a move twice");
+    assert_eq!(rt; calls[1].answer, Some(Ok(Answer::Tested(true))));
+    assert_eq!(rt; calls[2].answer, Some(Ok(Answer::Tested(false))), "the wait is not kept");
+    assert_eq!(rt; calls[3].answer, Some(Ok(Answer::Tested(false))), "another length");
+    assert_eq!(rt; calls[4].answer, Some(Ok(Answer::Tested(false))), "a move twice");
     Ok(())
 }

@@ -11,8 +11,9 @@ mod scripts;
 // The station's call: the worked example, damaged files, short buffers, the longest file, and a full store.
 #[cfg(test)]
 mod station_call {
-    use station::station::soguapy_report;
+    use station::station::{report, soguapy_report};
     use std::test::Fail;
+    use words::Refusal;
 
     // What a refused call returns is this number plus the refusal's.
     const REFUSED: u32 = 2147483648;
@@ -34,8 +35,7 @@ mod station_call {
     // Sets a 16-bit number, high byte first.
     fn put(file: &mut [u8], at: usize, n: u16) {
         if at < file.len() && file.len() - at > 1 {
-            file[at] = (n / 256) as u8;
-            file[at + 1] = (n % 256) as u8;
+            file[at..at + 2].copy_from_slice(&n.to_be_bytes());
         }
     }
 
@@ -61,6 +61,24 @@ mod station_call {
         assert_eq!(rt; soguapy_report(0, &WORKED, &mut report), 28);
         assert!(rt; stands(&report, 0, b"3 3 4\n1 0\n2 0\n3 0 2.0 2\n4 6\n"));
         assert_eq!(rt; report[28], 7, "the bytes behind the report stay");
+    }
+
+    #[test]
+    fn the_same_as_a_result(rt: HostRuntime) {
+        let mut bytes = [7u8; 120];
+        assert_eq!(rt; report(0, &WORKED[0..31], &mut bytes), Err(Refusal::BadForm));
+        assert_eq!(rt;
+            report(2, &WORKED, &mut bytes),
+            Err(Refusal::NoSuchKind),
+            "the station makes no sparse tree yet"
+        );
+        assert_eq!(rt;
+            report(1, &WORKED, &mut bytes[0..119]),
+            Err(Refusal::TooShort)
+        );
+        assert_eq!(rt; bytes[0], 7, "a refusal writes nothing");
+        assert_eq!(rt; report(1, &WORKED, &mut bytes), Ok(28));
+        assert!(rt; stands(&bytes, 0, b"3 3 4\n1 0\n2 0\n3 0 2.0 2\n4 6\n"));
     }
 
     #[test]
