@@ -1,5 +1,5 @@
 // Written moves as codes, and written calls as calls of the board.
-ghost use Rattle.std.specs.Prelude.{◌≡◌};
+ghost use Rattle.std.specs.Prelude.{◌≡◌, Ok, map, Any, IsErr, IfOk, IfSome, IfNone};
 ghost use Rattle.commands.specs.Calls.{coded, AsBoard, narrow, asked};
 
 use crate::values::{Move, Request, Setup};
@@ -61,7 +61,10 @@ pub fn ask_of(aisle: Aisle, request: Request) -> Result<Ask, Refusal>
 }
 
 // The codes of the moves; none where one of them has no code.
-pub fn codes_of(heap: Global, moves: &[Move]) -> Result<Option<Vec<u16>>, AllocError> {
+pub fn codes_of(heap: Global, moves: &[Move]) -> Result<Option<Vec<u16>>, AllocError>
+    ensures found { IfOk result (λ o. IfSome o (λ v. map Ok v.items ≡ map (coded 16 4096) moves.now)) }
+    ensures missing { IfOk result (λ o. IfNone o (Any (λ m. IsErr (coded 16 4096 m)) moves.now)) }
+{
     let mut codes = Vec::new(heap);
     for it in moves {
         let Ok(code) = code_of(LARGEST, *it) else {

@@ -1,7 +1,7 @@
 // Scripts as edit files, and edit files as scripts.
-ghost use Rattle.std.specs.Prelude.{◌≡◌, ◌*◌, ◌≤◌, true, IfOk, Some, vec_len};
+ghost use Rattle.std.specs.Prelude.{◌≡◌, ◌*◌, ◌≤◌, true, IfOk, Some, vec_len, string_bytes};
 ghost use Rattle.station.specs.Edit.{step_of, well_formed};
-ghost use Rattle.script.specs.Texts.{line_text, damage_text};
+ghost use Rattle.script.specs.Texts.{line_text, script_text, damage_text};
 ghost use Rattle.script.specs.declared.edits.Damage.TheVariants.{Memory};
 
 use commands::codes::{LARGEST, ask_of};
@@ -184,7 +184,10 @@ impl fmt::Display for Line {
 }
 
 // The script of an edit file, over a plain table and a loose list.
-pub fn unpack(heap: Global, file: &[u8]) -> Result<String, Damage> {
+pub fn unpack(heap: Global, file: &[u8]) -> Result<String, Damage>
+    ensures formed { IfOk result (λ script. well_formed file.now ≡ true) }
+    ensures text { IfOk result (λ script. string_bytes script ≡ script_text file.now) }
+{
     let header = read_header(file).ok_or(Damage::Form)?;
     let setup = Setup {
         shuttles: u32::from(header.shuttles),
