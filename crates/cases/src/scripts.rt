@@ -5,42 +5,35 @@ use script::reading::read_line;
 use std::alloc::Global;
 use std::test::Fail;
 
-// What is wrong with a line, or nothing.
-fn fault(heap: Global, line: &[u8]) -> &'static str {
-    match read_line(heap, line) {
-        Ok(_) => "",
-        Err(wrong) => wrong.text(),
-    }
+// What is wrong with a line, if anything is.
+fn fault(heap: Global, line: &[u8]) -> Option<Wrong> {
+    read_line(heap, line).err()
 }
 
 #[test]
 fn wrong_lines(rt: HostRuntime) {
     let heap = rt.alloc();
-    assert_eq!(rt; fault(heap, b"plase 0.1 1.1"), Wrong::Command.text());
-    assert_eq!(rt; fault(heap, b"place 0.1"), Wrong::Missing.text());
-    assert_eq!(rt; fault(heap, b"list 0.1"), Wrong::Surplus.text());
-    assert_eq!(rt; fault(heap, b"place 0.1 1"), Wrong::Move.text());
-    assert_eq!(rt; fault(heap, b"test 0.1 .1"), Wrong::Move.text());
-    assert_eq!(rt; fault(heap, b"cell 0 -1 0"), Wrong::Number.text());
-    assert_eq!(rt; fault(heap, b"board 3 3 dense loose"), Wrong::Table.text());
-    assert_eq!(rt; fault(heap, b"board 3 3 plain tight"), Wrong::Store.text());
-    assert_eq!(rt; fault(heap, b" \t # place\r\n"), "", "a remark");
+    assert_eq!(rt; fault(heap, b"plase 0.1 1.1"), Some(Wrong::Command));
+    assert_eq!(rt; fault(heap, b"place 0.1"), Some(Wrong::Missing));
+    assert_eq!(rt; fault(heap, b"list 0.1"), Some(Wrong::Surplus));
+    assert_eq!(rt; fault(heap, b"place 0.1 1"), Some(Wrong::Move));
+    assert_eq!(rt; fault(heap, b"test 0.1 .1"), Some(Wrong::Move));
+    assert_eq!(rt; fault(heap, b"cell 0 -1 0"), Some(Wrong::Number));
+    assert_eq!(rt; fault(heap, b"board 3 3 dense loose"), Some(Wrong::Table));
+    assert_eq!(rt; fault(heap, b"board 3 3 plain tight"), Some(Wrong::Store));
+    assert_eq!(rt; fault(heap, b" \t # place\r\n"), None, "a remark");
     assert_eq!(rt;
         fault(heap, b"push  99999999999.0 "),
-        "",
+        None,
         "refused, and not wrong"
     );
 }
 
-// Adds the command of a line to the file; says what is wrong with it, or nothing.
-fn packed(heap: Global, packing: &mut Packing, line: &[u8]) -> &'static str {
-    match read_line(heap, line) {
-        Ok(Some(command)) => match packing.take(command) {
-            Ok(()) => "",
-            Err(wrong) => wrong.text(),
-        },
-        Ok(None) => "",
-        Err(wrong) => wrong.text(),
+// Adds the command of a line, if it has one, to the file.
+fn packed(heap: Global, packing: &mut Packing, line: &[u8]) -> Result<(), Wrong> {
+    match read_line(heap, line)? {
+        Some(command) => packing.take(command),
+        None => Ok(()),
     }
 }
 
@@ -50,32 +43,32 @@ fn commands_that_no_edit_file_has(rt: HostRuntime) {
     let mut packing = Packing::new(heap);
     assert_eq!(rt;
         packed(heap, &mut packing, b"place 0.0 1.0"),
-        Wrong::NoBoard.text()
+        Err(Wrong::NoBoard)
     );
-    assert_eq!(rt; packed(heap, &mut packing, b"board 3 3 plain loose"), "");
     assert_eq!(rt;
         packed(heap, &mut packing, b"board 3 3 plain loose"),
-        Wrong::SecondBoard.text()
+        Ok(())
     );
     assert_eq!(rt;
-        packed(heap, &mut packing, b"list"),
-        Wrong::Unpackable.text()
+        packed(heap, &mut packing, b"board 3 3 plain loose"),
+        Err(Wrong::SecondBoard)
     );
+    assert_eq!(rt; packed(heap, &mut packing, b"list"), Err(Wrong::Unpackable));
     assert_eq!(rt;
         packed(heap, &mut packing, b"cell 0 1 0"),
-        Wrong::Unpackable.text()
+        Err(Wrong::Unpackable)
     );
     assert_eq!(rt;
         packed(heap, &mut packing, b"place 16.0 1.0"),
-        Wrong::NoCode.text()
+        Err(Wrong::NoCode)
     );
     assert_eq!(rt;
         packed(heap, &mut packing, b"first-after 0.0 65536"),
-        Wrong::NoCode.text()
+        Err(Wrong::NoCode)
     );
     assert_eq!(rt;
         packed(heap, &mut packing, b"first-after 15.4095 65535"),
-        "",
+        Ok(()),
         "as an edit file has it"
     );
 }
@@ -96,18 +89,11 @@ fn there_and_back(rt: HostRuntime) -> Result<(), Fail> {
     );
     let mut packing = Packing::new(heap);
     for line in script.as_str().lines() {
-        assert_eq!(rt; packed(heap, &mut packing, line.as_bytes()), "");
+        assert_eq!(rt; packed(heap, &mut packing, line.as_bytes()), Ok(()));
     }
-    match packing.finish(heap) {
-        Ok(file) => {
-            assert!(rt; file.as_slice() == STEPS.as_slice());
-            Ok(())
-        },
-        Err(_) => {
-            assert!(rt; false);
-            Ok(())
-        },
-    }
+    let file = packing.finish(heap)?;
+    assert!(rt; file.as_slice() == STEPS.as_slice());
+    Ok(())
 }
 
 // Whether the file is refused as badly formed.

@@ -5,7 +5,7 @@ use Rattle.words.specs.Refusals.{then, unless}
 use Rattle.words.specs.Codes.{code_of}
 use Rattle.questions.specs.Checks.{move_check}
 use Rattle.commands.specs.declared.values.Move.{Move}
-use Rattle.commands.specs.Calls.{coded}
+use Rattle.commands.specs.Calls.{coded, AsBoard}
 
 regroup : {X : Type 0} (a b : Result Unit Refusal) (c : Result X Refusal) → then a (then b c) ≡ then (then a b) c
 regroup (Ok u) b c = refl
@@ -26,3 +26,7 @@ agreeing k n m small short low =
     ∙ regroup (unless (ltb s k) 1) (unless (ltb i n) 2) (Ok (code_of s i))
     ∙ ap (λ x. then (then (unless (ltb x k) 1) (unless (ltb i n) 2)) (Ok (code_of s i))) (sym shuttle)
     ∙ ap (λ x. then (then (unless (ltb ((s * 4096 + i) / 4096) k) 1) (unless (ltb x n) 2)) (Ok (code_of s i))) (sym place)
+
+-- so is one that is answered so
+pub alike : (k n : ℕ) (m : Move) (r : Result ℕ Refusal) → r ≡ coded k n m → AsBoard k n m r
+alike k n m r e = λ small short low. e ∙ agreeing k n m small short low

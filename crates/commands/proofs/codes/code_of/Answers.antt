@@ -1,9 +1,12 @@
-use Rattle.std.proofs.Common.{◌∙◌, rules}
-use Rattle.commands.proofs.Agreeing.{agreeing}
+use Rattle.std.proofs.Common.{rules}
+use Rattle.commands.proofs.Agreeing.{alike}
 use Rattle.commands.proofs.codes.code_of.Goals as goal
 
-pub returns : goal.returns
-returns c = record {
-  value = search rules;
-  alike = λ small short low. c.checked_code.ensures ∙ agreeing c.args.shuttles c.args.moves c.args.it small short low;
-}
+pub returns-then-it-from-clause-alike : goal.returns-then-it-from-clause-alike
+returns-then-it-from-clause-alike c = alike c.args.aisle.shuttles c.args.aisle.moves c.args.it _ (search rules)
+
+pub returns-then-it-from-2-clause-alike : goal.returns-then-it-from-2-clause-alike
+returns-then-it-from-2-clause-alike c = alike c.args.aisle.shuttles c.args.aisle.moves c.args.it _ (search rules)
+
+pub returns-clause-alike : goal.returns-clause-alike
+returns-clause-alike c = alike c.args.aisle.shuttles c.args.aisle.moves c.args.it _ (search rules)
