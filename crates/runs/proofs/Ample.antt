@@ -17,8 +17,7 @@ use Rattle.questions.proofs.Inside.{wait_waiting}
 use Rattle.board.specs.Standing.{Limits, Waits, holds, cells_of, room_for, place_gives, PushedBy}
 use Rattle.runs.specs.declared.calls.Ask.{Ask}
 use Rattle.runs.specs.declared.calls.Ask.TheVariants.{Place, Remove, Before as IsBefore, FirstAfter, LastBefore, List as ListMoves, Push as PushMove, Test as TestOrder}
-use Rattle.runs.specs.declared.calls.Answer.{Answer}
-use Rattle.runs.specs.Law.{Event, Answered, standing, Law}
+use Rattle.runs.specs.Law.{Outcome, Event, Answered, standing, Law}
 
 abbrev pub Apart : Waits → Type 0
 Apart W = (u v : Move) → In W (u, v) → u.0 ≡ v.0 → ⊥
@@ -82,7 +81,7 @@ module _ (k n waits x y : ℕ) (ax : Ample k n x waits) (ay : Ample k n y waits)
   pushed_alike W (Ok z) v old new r h = h
   pushed_alike W (Err e) v old new r h = h
 
-  answered_alike : (W : Waits) → Apart W → (q : Ask) (old : List ℕ) (a : Answer) (new : List ℕ) →
+  answered_alike : (W : Waits) → Apart W → (q : Ask) (old : List ℕ) (a : Outcome) (new : List ℕ) →
       Answered (sized k n x waits) W q old a new → Answered (sized k n y waits) W q old a new
   answered_alike W apart (Place u v) old a new h =
       let r = h.0 in

@@ -1,18 +1,17 @@
 -- The law leaves one outcome.
-use Rattle.std.proofs.Common.{◌≡◌, ℕ, suc, ◌<◌, List, [], ◌∷◌, length, get_or, take, sym, refl, ap, ◌∙◌, subst, arith}
+use Rattle.std.proofs.Common.{◌≡◌, ℕ, suc, ◌<◌, List, [], ◌∷◌, length, get_or, take, Ok, sym, refl, ap, ◌∙◌, subst, arith}
 use Rattle.questions.specs.declared.rounds.Way.TheVariants.{After, Before as Ahead}
 use Rattle.board.specs.Standing.{Limits, Waits}
 use Rattle.board.proofs.Unique.{one_placed, one_told, one_found, one_listed, one_pushed, one_tested}
 use Rattle.runs.specs.declared.calls.Ask.{Ask}
 use Rattle.runs.specs.declared.calls.Ask.TheVariants.{Place, Remove, Before as IsBefore, FirstAfter, LastBefore, List as ListMoves, Push as PushMove, Test as TestOrder}
-use Rattle.runs.specs.declared.calls.Answer.{Answer}
 use Rattle.runs.specs.declared.calls.Answer.TheVariants.{Tested as TestedAs}
 use Rattle.runs.specs.declared.calls.Call.{Call}
-use Rattle.runs.specs.Law.{done_answer, truth_answer, found_answer, count_answer, after_call, Answered, Event, standing_from, RightAt, SameCalls, OneOutcome}
+use Rattle.runs.specs.Law.{Outcome, done_answer, truth_answer, found_answer, count_answer, after_call, Answered, Event, standing_from, RightAt, SameCalls, OneOutcome}
 use Rattle.runs.specs.Replay.{told, MadeOf, Replayed, OnlyOutcome}
 
 -- where the same waits stand, a call has one answer and leaves one slice
-pub one_answered : (b : Limits) (W : Waits) (q : Ask) (old : List ℕ) (a : Answer) (new : List ℕ) (a' : Answer) (new' : List ℕ)
+pub one_answered : (b : Limits) (W : Waits) (q : Ask) (old : List ℕ) (a : Outcome) (new : List ℕ) (a' : Outcome) (new' : List ℕ)
     → Answered b W q old a new → Answered b W q old a' new' → (a ≡ a') × (new ≡ new')
 one_answered b W (Place u v) old a new a' new' g h =
     let x = g.0 in
@@ -43,7 +42,7 @@ one_answered b W (PushMove v) old a new a' new' g h =
 one_answered b W TestOrder old a new a' new' g h =
     let x = g.0 in
     let y = h.0 in
-    (x.1 ∙ ap TestedAs (one_tested b W old x.0 y.0 x.2 y.2) ∙ sym y.1, g.1 ∙ sym h.1)
+    (x.1 ∙ ap (λ y. Ok (TestedAs y)) (one_tested b W old x.0 y.0 x.2 y.2) ∙ sym y.1, g.1 ∙ sym h.1)
 
 -- so an event is one
 same_event : (b : Limits) (W : Waits) (e f : Event) → e.ask ≡ f.ask → e.given ≡ f.given → RightAt b W e → RightAt b W f → e ≡ f

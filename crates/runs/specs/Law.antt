@@ -10,38 +10,41 @@ use Rattle.board.specs.Standing.{Limits, Waits, Stands, lengths, without, Placed
 use Rattle.runs.specs.declared.calls.Ask.{Ask}
 use Rattle.runs.specs.declared.calls.Ask.TheVariants.{Place, Remove, Before as IsBefore, FirstAfter, LastBefore, List as ListMoves, Push as PushMove, Test as TestOrder}
 use Rattle.runs.specs.declared.calls.Answer.{Answer}
-use Rattle.runs.specs.declared.calls.Answer.TheVariants.{Pending, Done, Refused, Truth, Found as Found_at, Listed as ListedAs, Tested as TestedAs}
+use Rattle.runs.specs.declared.calls.Answer.TheVariants.{Done, Truth, Found as Found_at, Listed as ListedAs, Tested as TestedAs}
 
--- results as answers
+-- what a call leaves: its answer, or why it is refused
+abbrev pub Outcome : Type 0
+Outcome = Result Answer Refusal
 
-abbrev pub done_answer : Result Unit Refusal → Answer
-done_answer (Ok x) = Done
-done_answer (Err e) = Refused e
+-- results as outcomes
 
-abbrev pub truth_answer : Result Bool Refusal → ℕ → Answer
-truth_answer (Ok y) c = Truth y c
-truth_answer (Err e) c = Refused e
+abbrev pub done_answer : Result Unit Refusal → Outcome
+done_answer (Ok x) = Ok Done
+done_answer (Err e) = Err e
 
-abbrev pub found_answer : Result (Option ℕ) Refusal → ℕ → Answer
-found_answer (Ok o) c = Found_at o c
-found_answer (Err e) c = Refused e
+abbrev pub truth_answer : Result Bool Refusal → ℕ → Outcome
+truth_answer (Ok y) c = Ok (Truth y c)
+truth_answer (Err e) c = Err e
 
-abbrev pub count_answer : Result ℕ Refusal → Answer
-count_answer (Ok n) = ListedAs n
-count_answer (Err e) = Refused e
+abbrev pub found_answer : Result (Option ℕ) Refusal → ℕ → Outcome
+found_answer (Ok o) c = Ok (Found_at o c)
+found_answer (Err e) c = Err e
+
+abbrev pub count_answer : Result ℕ Refusal → Outcome
+count_answer (Ok n) = Ok (ListedAs n)
+count_answer (Err e) = Err e
 
 -- the first waits where the call is done, and else the second
-abbrev pub where_done : Answer → Waits → Waits → Waits
-where_done Pending V W = W
-where_done Done V W = V
-where_done (Refused e) V W = W
-where_done (Truth y c) V W = W
-where_done (Found_at o c) V W = W
-where_done (ListedAs n) V W = W
-where_done (TestedAs y) V W = W
+abbrev pub where_done : Outcome → Waits → Waits → Waits
+where_done (Ok Done) V W = V
+where_done (Ok (Truth y c)) V W = W
+where_done (Ok (Found_at o c)) V W = W
+where_done (Ok (ListedAs n)) V W = W
+where_done (Ok (TestedAs y)) V W = W
+where_done (Err e) V W = W
 
 -- the waits that stand after a call, from the call and its answer alone: a placement done adds its wait, a removal done takes it out, nothing else changes them
-abbrev pub after_call : Waits → Ask → Answer → Waits
+abbrev pub after_call : Waits → Ask → Outcome → Waits
 after_call W (Place u v) a = where_done a ((move_of u, move_of v) ∷ W) W
 after_call W (Remove u v) a = where_done a (without W (move_of u) (move_of v)) W
 after_call W (IsBefore u v) a = W
@@ -52,7 +55,7 @@ after_call W (PushMove v) a = W
 after_call W TestOrder a = W
 
 -- the answer to a call where the waits W stand, and what it leaves in its slice
-abbrev pub Answered : Limits → Waits → Ask → List ℕ → Answer → List ℕ → Type 0
+abbrev pub Answered : Limits → Waits → Ask → List ℕ → Outcome → List ℕ → Type 0
 Answered b W (Place u v) old a new = ((r : Result Unit Refusal) × (a ≡ done_answer r) × Placed b W u v r × Circled b W u v r) × (new ≡ old)
 Answered b W (Remove u v) old a new = (a ≡ done_answer (remove_gives b W u v)) × (new ≡ old)
 Answered b W (IsBefore u v) old a new = ((r : Result Bool Refusal) × (c : ℕ) × (a ≡ truth_answer r c) × Tells b W u v r c) × (new ≡ old)
@@ -60,13 +63,13 @@ Answered b W (FirstAfter u t) old a new = ((r : Result (Option ℕ) Refusal) × 
 Answered b W (LastBefore u t) old a new = ((r : Result (Option ℕ) Refusal) × (c : ℕ) × (a ≡ found_answer r c) × Found Ahead b W u t r c) × (new ≡ old)
 Answered b W ListMoves old a new = (r : Result ℕ Refusal) × (a ≡ count_answer r) × Listed b W old new r
 Answered b W (PushMove v) old a new = (r : Result ℕ Refusal) × (a ≡ count_answer r) × Pushed b W v old new r
-Answered b W TestOrder old a new = ((y : Bool) × (a ≡ TestedAs y) × Tested b W old y) × (new ≡ old)
+Answered b W TestOrder old a new = ((y : Bool) × (a ≡ Ok (TestedAs y)) × Tested b W old y) × (new ≡ old)
 
 -- a call, what its slice held before, its answer, and what its slice holds afterwards
 pub record Event : Type 0 where
   pub ask : Ask
   pub given : List ℕ
-  pub answer : Answer
+  pub answer : Outcome
   pub left : List ℕ
 
 -- the waits that stand after some events, W standing at first
@@ -105,9 +108,9 @@ abbrev pub OneOutcome : Limits → Type 0
 OneOutcome b = (es fs : List Event) → SameCalls es fs → Law b es → Law b fs → es ≡ fs
 
 -- what one call says of all waits that stand on its board
-pub record StepKeeps (m : Meaning) (h : Holding) (q : Ask) (old : List ℕ) (a : Answer) (new : List ℕ) (m' : Meaning) (h' : Holding) : Type 0 where
+pub record StepKeeps (m : Meaning) (h : Holding) (q : Ask) (old : List ℕ) (a : Outcome) (new : List ℕ) (m' : Meaning) (h' : Holding) : Type 0 where
   pub keeps : (b : Limits) (W : Waits) → Stands b W m h → Answered b W q old a new × Stands b (after_call W q a) m' h'
 
 -- the same of a call that leaves its slice alone, whatever that holds
-pub record SilentKeeps (m : Meaning) (h : Holding) (q : Ask) (a : Answer) (m' : Meaning) (h' : Holding) : Type 0 where
+pub record SilentKeeps (m : Meaning) (h : Holding) (q : Ask) (a : Outcome) (m' : Meaning) (h' : Holding) : Type 0 where
   pub slice : (old : List ℕ) → StepKeeps m h q old a old m' h'

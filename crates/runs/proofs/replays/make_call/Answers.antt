@@ -6,8 +6,9 @@ use Rattle.runs.proofs.replays.make_call.Goals as goal
 pub returns : goal.returns
 returns g c =
     let v = c.args.call.now.slice in
-    let k = c.step-answer.auto.slice in
+    let k = c.step-outcome.auto.slice in
     record {
       ask = refl;
-      step = step_same c.as_mut_slice.ensures.value (sym (with_items_is v c.step-answer.new.slice (k ∙ c.as_mut_slice.ensures.len))) c.step-answer.ensures;
+      answered = refl;
+      step = step_same c.as_mut_slice.ensures.value (sym (with_items_is v c.step-outcome.new.slice (k ∙ c.as_mut_slice.ensures.len))) c.step-outcome.ensures;
     }

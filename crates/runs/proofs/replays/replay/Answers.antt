@@ -2,7 +2,7 @@ use Rattle.std.proofs.Common.{refl, arith}
 use Rattle.board.specs.Standing.{limits}
 use Rattle.runs.proofs.Outcome.{only_outcome}
 use Rattle.runs.proofs.Replaying.{going_none, going_more, going_ends, rest_more}
-use Rattle.runs.proofs.replays.run.Goals as goal
+use Rattle.runs.proofs.replays.replay.Goals as goal
 
 pub loop-call-init : goal.loop-call-init
 loop-call-init g c = (λ b st. going_none b c.args.calls.now _ _ st, refl)

@@ -1,7 +1,7 @@
 use Rattle.std.proofs.Common.{◌≡◌, [], drop}
 use Rattle.board.specs.Standing.{Limits, Stands}
 use Rattle.runs.proofs.Replaying.{Going}
-use Rattle.runs.proofs.replays.run.Given as goal
+use Rattle.runs.proofs.replays.replay.Given as goal
 
 -- the calls so far are made, and the others are as they were
 abbrev pub invariant-loop-call : goal.invariant-loop-call
