@@ -3,7 +3,7 @@ ghost use Rattle.std.specs.Prelude.{◌^◌, ◌<◌, ◌≤◌, length};
 
 use crate::links::Links;
 use crate::search::{Marks, Search, Way};
-use runs::calls::{Answer, Ask};
+use runs::calls::{Answer, Ask, Outcome};
 use std::alloc::{AllocError, Global};
 use words::Refusal;
 
@@ -116,7 +116,7 @@ impl Graph {
         self.entering.hang(v as usize, link, u);
     }
 
-    fn place(&mut self, u: u16, v: u16) -> Result<Answer, Refusal> {
+    fn place(&mut self, u: u16, v: u16) -> Outcome {
         self.check_wait(u, v)?;
         if self.leaving.find(u as usize, v).is_some() {
             return Err(Refusal::AlreadyHeld);
@@ -137,7 +137,7 @@ impl Graph {
         Ok(Answer::Done)
     }
 
-    fn remove(&mut self, u: u16, v: u16) -> Result<Answer, Refusal> {
+    fn remove(&mut self, u: u16, v: u16) -> Outcome {
         self.check_wait(u, v)?;
         let Some(link) = self.leaving.find(u as usize, v) else {
             return Err(Refusal::NotHeld);
@@ -151,7 +151,7 @@ impl Graph {
         Ok(Answer::Done)
     }
 
-    fn before(&mut self, u: u16, v: u16) -> Result<Answer, Refusal> {
+    fn before(&mut self, u: u16, v: u16) -> Outcome {
         self.check_move(u)?;
         self.check_move(v)?;
         Ok(Answer::Truth(self.leads(u, v), 0))
@@ -169,7 +169,7 @@ impl Graph {
     }
 
     // The nearest move of t that has to follow u, or that has to come before it.
-    fn nearest(&mut self, way: Way, u: u16, t: u16) -> Result<Answer, Refusal> {
+    fn nearest(&mut self, way: Way, u: u16, t: u16) -> Outcome {
         self.check_move(u)?;
         if t >= self.limits.shuttles {
             return Err(Refusal::NoSuchShuttle);
@@ -227,7 +227,7 @@ impl Graph {
         Ok(())
     }
 
-    fn list(&mut self, slice: &mut [u16]) -> Result<Answer, Refusal> {
+    fn list(&mut self, slice: &mut [u16]) -> Outcome {
         self.check_room(slice)?;
         self.search.seen.fill(true);
         self.listed.fill(false);
@@ -235,7 +235,7 @@ impl Graph {
         Ok(Answer::Listed(self.list_seen(&mut places, slice)))
     }
 
-    fn push(&mut self, v: u16, slice: &mut [u16]) -> Result<Answer, Refusal> {
+    fn push(&mut self, v: u16, slice: &mut [u16]) -> Outcome {
         self.check_move(v)?;
         self.check_room(slice)?;
         self.mark_from(Way::Backward, v, None);
@@ -261,8 +261,8 @@ impl Graph {
     }
 
     // Answers a call of a board. It knows no rounds: its questions have 0.
-    pub fn answer(&mut self, ask: Ask, slice: &mut [u16]) -> Answer {
-        let answer = match ask {
+    pub fn answer(&mut self, ask: Ask, slice: &mut [u16]) -> Outcome {
+        match ask {
             Ask::Place(u, v) => self.place(u, v),
             Ask::Remove(u, v) => self.remove(u, v),
             Ask::Before(u, v) => self.before(u, v),
@@ -271,10 +271,6 @@ impl Graph {
             Ask::List => self.list(slice),
             Ask::Push(v) => self.push(v, slice),
             Ask::Test => Ok(Answer::Tested(self.test(slice))),
-        };
-        match answer {
-            Ok(a) => a,
-            Err(e) => Answer::Refused(e),
         }
     }
 }

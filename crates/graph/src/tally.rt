@@ -2,7 +2,7 @@
 ghost use Rattle.std.specs.Prelude.{◌≡◌, Some};
 ghost use Rattle.graph.specs.Kinds.{kind_of, kind_word};
 
-use runs::calls::{Answer, Ask};
+use runs::calls::{Answer, Ask, Outcome};
 use std::{fmt, io};
 
 // The kinds of calls.
@@ -96,22 +96,23 @@ impl Tally {
         }
     }
 
-    // Counts a call and its answer.
-    pub fn note(&mut self, ask: Ask, answer: Answer) {
+    // Counts a call and what came of it.
+    pub fn note(&mut self, ask: Ask, outcome: Outcome) {
         let calls = &mut self.calls[Kind::from(ask) as usize];
         calls.made = calls.made.saturating_add(1);
-        match answer {
-            Answer::Refused(e) => {
-                count(&mut self.refused, e.number() as usize);
-                return;
+        match outcome {
+            Err(refusal) => count(&mut self.refused, refusal.number() as usize),
+            Ok(answer) => {
+                calls.done = calls.done.saturating_add(1);
+                match answer {
+                    Answer::Truth(_, rounds) | Answer::Found(_, rounds) => {
+                        count(&mut self.rounds, rounds as usize)
+                    }
+                    Answer::Tested(yes) => count(&mut self.tested, yes as usize),
+                    Answer::Done | Answer::Listed(_) => {}
+                }
             }
-            Answer::Truth(_, rounds) | Answer::Found(_, rounds) => {
-                count(&mut self.rounds, rounds as usize);
-            }
-            Answer::Tested(yes) => count(&mut self.tested, yes as usize),
-            Answer::Done | Answer::Listed(_) | Answer::Pending => {}
         }
-        calls.done = calls.done.saturating_add(1);
     }
 
     // How often this kind was called.
