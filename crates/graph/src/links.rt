@@ -84,15 +84,17 @@ impl Links {
     // Takes the link out of the head's list.
     pub(crate) fn unhang(&mut self, head: usize, number: u16) {
         let behind = self.links.get(number as usize).and_then(|link| link.next);
-        let ahead = self.of(head).find(|(_, link)| link.next == Some(number));
-        match ahead {
-            Some((ahead, _)) => {
-                if let Some(link) = self.links.get_mut(ahead as usize) {
-                    link.next = behind;
-                }
-            }
-            None => self.set_first(head, behind),
+        if self.first(head) == Some(number) {
+            self.set_first(head, behind);
+        } else if let Some(link) = self.ahead(head, number) {
+            link.next = behind;
         }
+    }
+
+    // The link just ahead of this one in the head's list.
+    fn ahead(&mut self, head: usize, number: u16) -> Option<&mut Link> {
+        let (ahead, _) = self.of(head).find(|(_, link)| link.next == Some(number))?;
+        self.links.get_mut(ahead as usize)
     }
 
     // The link of the head's list that leads to the move.

@@ -1,9 +1,9 @@
 // What came of a history: a checksum of all that was returned, the counts, and the time of each kind of call.
-use graph::tally::{Tally, kind_of};
-use runs::calls::{Answer, Ask};
+use graph::tally::{Kind, Tally};
+use runs::calls::{Answer, Ask, Outcome};
 
 #[derive(Drop)]
-pub struct Outcome {
+pub struct Score {
     pub checksum: u32,
     pub tally: Tally,
     // the time of all calls of a kind
@@ -16,13 +16,13 @@ fn finding(answer: Answer) -> Option<u32> {
         Answer::Truth(yes, _) => Some(yes as u32),
         Answer::Found(Some(u), _) => Some(u as u32),
         Answer::Found(None, _) => Some(65536),
-        _ => None,
+        Answer::Done | Answer::Listed(_) | Answer::Tested(_) => None,
     }
 }
 
-impl Outcome {
-    pub fn new() -> Outcome {
-        Outcome {
+impl Score {
+    pub fn new() -> Score {
+        Score {
             checksum: 0,
             tally: Tally::new(),
             nanos: [0; 8],
@@ -34,33 +34,29 @@ impl Outcome {
     }
 
     // Takes what a call returned into the checksum: 0 or the refusal, and what a question found.
-    pub fn sum(&mut self, answer: Answer) {
-        let returned = match answer {
-            Answer::Refused(e) => e.number() as u32,
-            _ => 0,
-        };
-        self.add(returned);
-        if let Some(number) = finding(answer) {
-            self.add(number);
+    pub fn sum(&mut self, outcome: Outcome) {
+        match outcome {
+            Err(refusal) => self.add(refusal.number() as u32),
+            Ok(answer) => {
+                self.add(0);
+                if let Some(number) = finding(answer) {
+                    self.add(number);
+                }
+            }
         }
     }
 
     // Counts a call and its time.
-    pub fn note(&mut self, ask: Ask, answer: Answer, nanos: u64) {
-        self.tally.note(ask, answer);
-        let kind = kind_of(ask);
-        if kind < 8 {
-            self.nanos[kind] = self.nanos[kind].saturating_add(nanos);
-        }
+    pub fn note(&mut self, ask: Ask, outcome: Outcome, nanos: u64) {
+        self.tally.note(ask, outcome);
+        let spent = &mut self.nanos[Kind::from(ask) as usize];
+        *spent = spent.saturating_add(nanos);
     }
 
     // The mean time of a call of this kind, in nanoseconds.
-    pub fn mean(&self, kind: usize) -> u64 {
-        let calls = self.tally.calls_of(kind);
-        if kind < 8 && calls > 0 {
-            self.nanos[kind] / calls
-        } else {
-            0
-        }
+    pub fn mean(&self, kind: Kind) -> u64 {
+        self.nanos[kind as usize]
+            .checked_div(self.tally.calls_of(kind))
+            .unwrap_or(0)
     }
 }
