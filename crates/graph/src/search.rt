@@ -41,13 +41,46 @@ impl Marks {
     }
 }
 
-// What a search has seen.
+// What a search has seen. The queue has room for all moves from the start, since no call on the graph may begin to fail.
 #[derive(Drop)]
 pub(crate) struct Search {
     pub(crate) seen: Marks,
-    // the moves that were reached, in order, are the first `reached`: the queue has room for all moves from the start, since no call on the graph may begin to fail
     queue: Vec<u16>,
-    reached: usize,
+}
+
+// The moves that a search has reached so far: they are marked, and the first `tail` of the queue. It borrows both, since the search took a sixth longer with its count behind a reference.
+#[derive(Drop)]
+struct Wave<'a> {
+    seen: &'a mut [bool],
+    queue: &'a mut [u16],
+    tail: usize,
+}
+
+impl<'a> Wave<'a> {
+    // Marks the move and queues it, unless it was seen.
+    fn reach(&mut self, m: u16) {
+        if let Some(place) = self.queue.get_mut(self.tail)
+            && let Some(seen) = self.seen.get_mut(m as usize)
+            && !*seen
+        {
+            *seen = true;
+            *place = m;
+            self.tail = self.tail.saturating_add(1);
+        }
+    }
+
+    // The move that was reached at this place of the queue.
+    fn at(&self, place: usize) -> Option<u16> {
+        if place < self.tail {
+            self.queue.get(place).copied()
+        } else {
+            None
+        }
+    }
+
+    fn has(&self, m: u16) -> bool {
+        self.seen.get(m as usize).is_some_and(|seen| *seen)
+    }
 }
 
 // The neighbour of the move on its own shuttle.
@@ -63,27 +96,7 @@ impl Search {
         Ok(Search {
             seen: Marks::make(heap, codes)?,
             queue: Vec::from_elem(heap, 0, codes)?,
-            reached: 0,
         })
-    }
-
-    // Marks the move and queues it, unless it was seen.
-    fn reach(&mut self, m: u16) {
-        if let Some(place) = self.queue.get_mut(self.reached)
-            && self.seen.add(m)
-        {
-            *place = m;
-            self.reached = self.reached.saturating_add(1);
-        }
-    }
-
-    // The move that was reached at this place of the queue.
-    fn at(&self, place: usize) -> Option<u16> {
-        if place < self.reached {
-            self.queue.get(place).copied()
-        } else {
-            None
-        }
     }
 
     // Marks every move that is reached from the start, itself among them, or at least the goal, where that is reached.
@@ -96,20 +109,24 @@ impl Search {
         goal: Option<u16>,
     ) {
         self.seen.fill(false);
-        self.reached = 0;
-        self.reach(start);
-        for place in 0..self.queue.len() {
-            let Some(m) = self.at(place) else {
+        let mut wave = Wave {
+            seen: self.seen.marks.as_mut_slice(),
+            queue: self.queue.as_mut_slice(),
+            tail: 0,
+        };
+        wave.reach(start);
+        for place in 0..wave.queue.len() {
+            let Some(m) = wave.at(place) else {
                 return;
             };
-            if goal.is_some_and(|g| self.seen.has(g)) {
+            if goal.is_some_and(|g| wave.has(g)) {
                 return;
             }
             if let Some(b) = beside(way, moves, m) {
-                self.reach(b);
+                wave.reach(b);
             }
             for (_, link) in links.of(m as usize) {
-                self.reach(link.end);
+                wave.reach(link.end);
             }
         }
     }
