@@ -6,7 +6,7 @@ use runs::calls::{Answer, Ask, Outcome};
 pub struct Score {
     pub checksum: u32,
     pub tally: Tally,
-    // the time of all calls of a kind
+    // the time of all calls of a kind, by its number: a map would allocate between two calls that are timed
     nanos: [u64; 8],
 }
 

@@ -115,6 +115,7 @@ impl Search {
             tail: 0,
         };
         wave.reach(start);
+        // by place, since the queue grows as it is gone through
         for place in 0..wave.queue.len() {
             let Some(m) = wave.at(place) else {
                 return;

@@ -15,7 +15,7 @@ use told::{Asked, Told, rounds_of};
 use words::kinds::{StoreKind, TableKind};
 
 // How many calls each board gets, and where the random numbers begin, unless the arguments say otherwise.
-const STEPS: usize = 2000;
+const STEPS: u64 = 2000;
 
 const SEED: u64 = 88172645463325252;
 
@@ -89,19 +89,19 @@ fn on_all(
     Ok(())
 }
 
+// The number of an argument, if it is given.
+fn number(word: Option<String>, otherwise: u64) -> anyhow::Result<u64> {
+    match word {
+        Some(word) => Ok(word.as_str().parse::<u64>()?),
+        None => Ok(otherwise),
+    }
+}
+
 // The arguments: how many calls, and the seed.
-fn arguments(rt: &HostRuntime) -> anyhow::Result<(usize, u64)> {
+fn arguments(rt: &HostRuntime) -> anyhow::Result<(u64, u64)> {
     let mut args = env::args(rt)?;
     let _ = args.next();
-    let steps = match args.next() {
-        Some(word) => word.as_str().parse::<usize>()?,
-        None => STEPS,
-    };
-    let seed = match args.next() {
-        Some(word) => word.as_str().parse::<u64>()?,
-        None => SEED,
-    };
-    Ok((steps, seed))
+    Ok((number(args.next(), STEPS)?, number(args.next(), SEED)?))
 }
 
 // Prints what was done.
@@ -127,7 +127,7 @@ fn run(rt: &HostRuntime) -> anyhow::Result<()> {
         let whole = History {
             limits: Limits::whole(shuttles, moves, waits),
             seed,
-            steps,
+            steps: steps as usize,
         };
         on_all(rt, whole, &WHOLE, &mut record)?;
         on_all(rt, scant(whole), &SCANT, &mut record)?;
