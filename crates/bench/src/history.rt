@@ -4,6 +4,7 @@ use graph::random::Random;
 use runs::calls::Ask;
 use std::alloc::{AllocError, Global};
 use stores::wait::Wait;
+use words::aisles::Aisle;
 
 // Where the random numbers begin.
 const SEED: u64 = 88172645463325252;
@@ -11,49 +12,65 @@ const SEED: u64 = 88172645463325252;
 // How large the aisle is, and how many steps are made on it.
 #[derive(Clone, Copy)]
 pub struct Size {
-    pub shuttles: u16,
-    pub moves: u16,
+    pub aisle: Aisle,
     pub steps: u32,
+}
+
+impl Size {
+    pub fn new(shuttles: u16, moves: u16, steps: u32) -> Size {
+        Size {
+            aisle: Aisle::new(shuttles, moves),
+            steps,
+        }
+    }
+
+    // How many moves there are.
+    pub fn all_moves(&self) -> usize {
+        self.aisle.shuttles as usize * self.aisle.moves as usize
+    }
 }
 
 #[derive(Drop)]
 pub struct History {
     random: Random,
-    size: Size,
+    aisle: Aisle,
     // every wait whose placement was tried, in order
     tried: Vec<Wait>,
 }
 
 impl History {
-    pub fn make(heap: Global, size: Size) -> History {
+    pub fn make(heap: Global, aisle: Aisle) -> History {
         History {
             random: Random::from(SEED),
-            size,
+            aisle,
             tried: Vec::new(heap),
         }
     }
 
     // Any move.
     fn draw_move(&mut self) -> u16 {
-        let shuttle = self.random.below(self.size.shuttles);
-        code(shuttle, self.random.below(self.size.moves))
+        let shuttle = self.draw_shuttle();
+        code(shuttle, self.random.below(self.aisle.moves))
+    }
+
+    fn draw_shuttle(&mut self) -> u16 {
+        self.random.below(self.aisle.shuttles)
     }
 
     // The wait to place: from any move to one of another shuttle, which is mostly not far behind.
     fn draw_wait(&mut self) -> Wait {
-        let k = self.size.shuttles;
-        let n = self.size.moves;
-        let s = self.random.below(k);
+        let Aisle { shuttles, moves } = self.aisle;
+        let s = self.random.below(shuttles);
         let t = s
             .wrapping_add(1)
-            .wrapping_add(self.random.below(k.saturating_sub(1)))
-            % k.max(1);
-        let i = self.random.below(n);
+            .wrapping_add(self.random.below(shuttles.saturating_sub(1)))
+            % shuttles.max(1);
+        let i = self.random.below(moves);
         let j = if self.random.below(10) == 0 {
-            self.random.below(n)
+            self.random.below(moves)
         } else {
             i.saturating_add(self.random.below(16))
-                .min(n.saturating_sub(1))
+                .min(moves.saturating_sub(1))
         };
         Wait {
             first: code(s, i),
@@ -69,35 +86,22 @@ impl History {
 
     // The removal of a wait that was tried, unless none was.
     fn remove(&mut self) -> Option<Ask> {
-        let tries = self.tried.len();
-        if tries == 0 {
+        if self.tried.is_empty() {
             return None;
         }
-        let at = self.random.draw(tries as u64) as usize;
-        if at >= self.tried.len() {
-            return None;
-        }
-        let wait = self.tried[at];
+        let at = self.random.draw(self.tried.len() as u64) as usize;
+        let wait = self.tried.get(at)?;
         Some(Ask::Remove(wait.first, wait.second))
     }
 
     // The call of the next step; none where it is skipped.
     pub fn next(&mut self) -> Result<Option<Ask>, AllocError> {
-        let d = self.random.below(100);
-        if d < 50 {
-            return Ok(Some(self.place()?));
-        }
-        if d < 70 {
-            return Ok(self.remove());
-        }
-        let u = self.draw_move();
-        let ask = if d < 80 {
-            Ask::Before(u, self.draw_move())
-        } else if d < 90 {
-            Ask::FirstAfter(u, self.random.below(self.size.shuttles))
-        } else {
-            Ask::LastBefore(u, self.random.below(self.size.shuttles))
-        };
-        Ok(Some(ask))
+        Ok(match self.random.below(100) {
+            0..=49 => Some(self.place()?),
+            50..=69 => self.remove(),
+            70..=79 => Some(Ask::Before(self.draw_move(), self.draw_move())),
+            80..=89 => Some(Ask::FirstAfter(self.draw_move(), self.draw_shuttle())),
+            _ => Some(Ask::LastBefore(self.draw_move(), self.draw_shuttle())),
+        })
     }
 }

@@ -4,24 +4,33 @@
 #![tactic(auto)]
 
 mod history;
-mod outcome;
 mod players;
+mod score;
 
-use anyhow::anyhow;
-use graph::lines::say;
-use graph::tally::name_of;
+use anyhow::{Context, anyhow, bail};
+use graph::tally::Kind;
 use history::Size;
-use outcome::Outcome;
-use players::{Kind, outcome_of};
+use players::{Game, Who};
+use score::Score;
 use std::{env, io};
-use tables::plain::check_plain;
+use tables::checks::check_sizes;
+use words::kinds::TableKind;
 
-// All kinds, with their names.
-const KINDS: [(Kind, &str); 4] = [
-    (Kind::Plain, "plain"),
-    (Kind::Full, "full"),
-    (Kind::Sparse, "sparse"),
-    (Kind::Graph, "graph"),
+const ALL: [Who; 4] = [
+    Who::Board(TableKind::Plain),
+    Who::Board(TableKind::Full),
+    Who::Board(TableKind::Sparse),
+    Who::Graph,
+];
+
+// The calls of a history.
+const TIMED: [Kind; 6] = [
+    Kind::Place,
+    Kind::Remove,
+    Kind::Before,
+    Kind::FirstAfter,
+    Kind::LastBefore,
+    Kind::List,
 ];
 
 // The sizes of the whole table: a small aisle, moves that double, and steps that double.
@@ -38,46 +47,50 @@ const SIZES: [(u16, u16, u32); 9] = [
 ];
 
 // Prints the mean times, in nanoseconds.
-fn print_times(rt: &HostRuntime, name: &str, size: Size, outcome: &Outcome) -> io::Result<()> {
-    let (k, n, steps) = (size.shuttles, size.moves, size.steps);
-    eprint!(rt; "{name} {k} {n} {steps}:")?;
-    for kind in 0..6usize {
-        let call = name_of(kind);
-        let nanos = outcome.mean(kind);
+fn print_times(game: Game<'_>, who: Who, score: &Score) -> io::Result<()> {
+    let rt = game.rt;
+    let Size { aisle, steps } = game.size;
+    let (k, n) = (aisle.shuttles, aisle.moves);
+    eprint!(rt; "{who} {k} {n} {steps}:")?;
+    for call in TIMED {
+        let nanos = score.mean(call);
         eprint!(rt; " {call} {nanos}")?;
     }
     eprintln!(rt; "")
 }
 
 // Prints the checksum, the rounds, which the graph search has none of, and the counts.
-fn print_counts(rt: &HostRuntime, kind: Kind, outcome: &Outcome) -> io::Result<()> {
-    say(rt, "checksum", "", &[outcome.checksum as u64])?;
-    match kind {
-        Kind::Graph => {}
-        _ => say(rt, "rounds", "", &[outcome.tally.all_rounds()])?,
+fn print_counts(rt: &HostRuntime, who: Who, score: &Score) -> io::Result<()> {
+    let checksum = score.checksum;
+    println!(rt; "checksum {checksum}")?;
+    if who != Who::Graph {
+        let rounds = score.tally.all_rounds();
+        println!(rt; "rounds {rounds}")?;
     }
-    outcome.tally.print_calls(rt)
+    score.tally.print_calls(rt)
 }
 
-// Plays one history and prints what came of it.
-fn run_one(rt: &HostRuntime, kind: Kind, name: &str, size: Size) -> anyhow::Result<u32> {
-    let outcome = outcome_of(rt, kind, size)?;
-    print_counts(rt, kind, &outcome)?;
-    print_times(rt, name, size, &outcome)?;
-    Ok(outcome.checksum)
+// Lets somebody play and prints what came of it; the checksum.
+fn run_one(game: Game<'_>, who: Who) -> anyhow::Result<u32> {
+    let score = game.played_by(who)?;
+    print_counts(game.rt, who, &score)?;
+    print_times(game, who, &score)?;
+    Ok(score.checksum)
 }
 
 // All kinds at this size; they have to give the same checksum.
-fn run_size(rt: &HostRuntime, size: Size) -> anyhow::Result<()> {
+fn run_size(game: Game<'_>) -> anyhow::Result<()> {
+    let rt = game.rt;
+    let Size { aisle, steps } = game.size;
+    let (k, n) = (aisle.shuttles, aisle.moves);
     let mut last = None;
-    for (kind, name) in KINDS {
-        let numbers = [size.shuttles as u64, size.moves as u64, size.steps as u64];
-        say(rt, "history", name, &numbers)?;
-        let checksum = run_one(rt, kind, name, size)?;
+    for who in ALL {
+        println!(rt; "history {who} {k} {n} {steps}")?;
+        let checksum = run_one(game, who)?;
         if let Some(other) = last
             && other != checksum
         {
-            return Err(anyhow!("the checksums differ"));
+            bail!("the checksums differ");
         }
         last = Some(checksum);
     }
@@ -87,31 +100,15 @@ fn run_size(rt: &HostRuntime, size: Size) -> anyhow::Result<()> {
 fn run_all(rt: &HostRuntime) -> anyhow::Result<()> {
     eprintln!(rt; "kind, shuttles, moves, steps: the mean time of each call, in nanoseconds")?;
     for (shuttles, moves, steps) in SIZES {
-        let size = Size {
-            shuttles,
-            moves,
-            steps,
-        };
-        run_size(rt, size)?;
+        let size = Size::new(shuttles, moves, steps);
+        run_size(Game { rt, size })?;
     }
     Ok(())
 }
 
-fn kind_named(word: &str) -> Option<(Kind, &'static str)> {
-    for (kind, name) in KINDS {
-        if word == name {
-            return Some((kind, name));
-        }
-    }
-    None
-}
-
 // The next word of the arguments.
 fn needed(word: Option<String>) -> anyhow::Result<String> {
-    match word {
-        Some(word) => Ok(word),
-        None => Err(anyhow!("usage: bench, or bench KIND SHUTTLES MOVES STEPS")),
-    }
+    word.context("usage: bench, or bench KIND SHUTTLES MOVES STEPS")
 }
 
 fn run(rt: &HostRuntime) -> anyhow::Result<()> {
@@ -120,21 +117,17 @@ fn run(rt: &HostRuntime) -> anyhow::Result<()> {
     let Some(word) = args.next() else {
         return run_all(rt);
     };
-    let Some((kind, name)) = kind_named(word.as_str()) else {
-        return Err(anyhow!("there is no such kind"));
+    let Ok(who) = word.as_str().parse::<Who>() else {
+        bail!("there is no such kind");
     };
     let shuttles = needed(args.next())?.as_str().parse::<u16>()?;
     let moves = needed(args.next())?.as_str().parse::<u16>()?;
     let steps = needed(args.next())?.as_str().parse::<u32>()?;
-    if check_plain(shuttles, moves, usize::MAX).is_err() {
-        return Err(anyhow!("a size is outside its limits"));
+    if check_sizes(shuttles, moves).is_err() {
+        bail!("a size is outside its limits");
     }
-    let size = Size {
-        shuttles,
-        moves,
-        steps,
-    };
-    run_one(rt, kind, name, size)?;
+    let size = Size::new(shuttles, moves, steps);
+    run_one(Game { rt, size }, who)?;
     Ok(())
 }
 

@@ -1,14 +1,14 @@
 // An aisle as a graph: its moves, its waits as links between them, and the calls of a board answered by searching.
-ghost use Rattle.std.specs.Prelude.{◌^◌, ◌<◌};
+ghost use Rattle.std.specs.Prelude.{◌^◌, ◌<◌, ◌≤◌, length};
 
 use crate::links::Links;
-use crate::search::{Way, mark, marked, spread};
-use runs::calls::{Answer, Ask};
+use crate::search::{Marks, Search, Way};
+use runs::calls::{Answer, Ask, Outcome};
 use std::alloc::{AllocError, Global};
 use words::Refusal;
 
 // How large a board is: its shuttles, the moves of each, the waits that its store holds at most, and the cells that its table fills at most.
-#[derive(Clone, Copy)]
+#[derive(Clone, Copy, PartialEq, Eq, Debug)]
 pub struct Limits {
     pub shuttles: u16,
     pub moves: u16,
@@ -39,9 +39,9 @@ pub struct Graph {
     leaving: Links,
     // the waits by their second move
     entering: Links,
-    seen: Vec<bool>,
-    listed: Vec<bool>,
-    queue: Vec<u16>,
+    search: Search,
+    // the moves that a list has so far
+    listed: Marks,
 }
 
 // The code of a move.
@@ -56,42 +56,32 @@ fn codes_of(limits: Limits) -> usize
     limits.shuttles as usize * 4096
 }
 
-// Hangs all links into the head's list.
-fn hang_all(links: &mut Links, head: usize, count: u16) {
-    for link in 0..count {
-        links.hang(head, link, 0);
-    }
-}
-
 impl Graph {
     // A graph without waits. There are at most 16 shuttles and 4,096 moves.
     pub fn make(heap: Global, limits: Limits) -> Result<Graph, AllocError> {
         let codes = codes_of(limits);
         let links = limits.waits as usize;
         let mut leaving = Links::make(heap, codes + 1, links)?;
-        hang_all(&mut leaving, codes, limits.waits);
-        let entering = Links::make(heap, codes, links)?;
-        let seen = Vec::from_elem(heap, false, codes)?;
-        let listed = Vec::from_elem(heap, false, codes)?;
-        let queue = Vec::from_elem(heap, 0, codes)?;
+        for link in 0..limits.waits {
+            leaving.hang(codes, link, 0);
+        }
         Ok(Graph {
             limits,
             filled: 0,
             leaving,
-            entering,
-            seen,
-            listed,
-            queue,
+            entering: Links::make(heap, codes, links)?,
+            search: Search::make(heap, codes)?,
+            listed: Marks::make(heap, codes)?,
         })
     }
 
     fn check_move(&self, u: u16) -> Result<(), Refusal> {
-        let on_shuttle = u / 4096 < self.limits.shuttles;
-        let at_place = u % 4096 < self.limits.moves;
-        match (on_shuttle, at_place) {
-            (false, _) => Err(Refusal::NoSuchShuttle),
-            (true, false) => Err(Refusal::NoSuchPlace),
-            (true, true) => Ok(()),
+        if u / 4096 >= self.limits.shuttles {
+            Err(Refusal::NoSuchShuttle)
+        } else if u % 4096 >= self.limits.moves {
+            Err(Refusal::NoSuchPlace)
+        } else {
+            Ok(())
         }
     }
 
@@ -107,18 +97,16 @@ impl Graph {
     // Marks what is reached from the move; the search may stop once it has met the goal.
     fn mark_from(&mut self, way: Way, m: u16, goal: Option<u16>) {
         let moves = self.limits.moves;
-        let seen = self.seen.as_mut_slice();
-        let queue = self.queue.as_mut_slice();
         match way {
-            Way::Forward => spread(&self.leaving, way, moves, m, goal, seen, queue),
-            Way::Backward => spread(&self.entering, way, moves, m, goal, seen, queue),
+            Way::Forward => self.search.spread(&self.leaving, way, moves, m, goal),
+            Way::Backward => self.search.spread(&self.entering, way, moves, m, goal),
         }
     }
 
     // Whether u is before v.
     fn leads(&mut self, u: u16, v: u16) -> bool {
         self.mark_from(Way::Forward, u, Some(v));
-        marked(self.seen.as_slice(), v)
+        self.search.seen.has(v)
     }
 
     // Hangs the wait into its two lists.
@@ -128,7 +116,7 @@ impl Graph {
         self.entering.hang(v as usize, link, u);
     }
 
-    fn place(&mut self, u: u16, v: u16) -> Result<Answer, Refusal> {
+    fn place(&mut self, u: u16, v: u16) -> Outcome {
         self.check_wait(u, v)?;
         if self.leaving.find(u as usize, v).is_some() {
             return Err(Refusal::AlreadyHeld);
@@ -149,7 +137,7 @@ impl Graph {
         Ok(Answer::Done)
     }
 
-    fn remove(&mut self, u: u16, v: u16) -> Result<Answer, Refusal> {
+    fn remove(&mut self, u: u16, v: u16) -> Outcome {
         self.check_wait(u, v)?;
         let Some(link) = self.leaving.find(u as usize, v) else {
             return Err(Refusal::NotHeld);
@@ -163,7 +151,7 @@ impl Graph {
         Ok(Answer::Done)
     }
 
-    fn before(&mut self, u: u16, v: u16) -> Result<Answer, Refusal> {
+    fn before(&mut self, u: u16, v: u16) -> Outcome {
         self.check_move(u)?;
         self.check_move(v)?;
         Ok(Answer::Truth(self.leads(u, v), 0))
@@ -171,20 +159,17 @@ impl Graph {
 
     // The marked move of the shuttle that the search met first.
     fn nearest_marked(&self, way: Way, t: u16) -> Option<u16> {
-        for step in 0..self.limits.moves {
-            let m = match way {
-                Way::Forward => code(t, step),
-                Way::Backward => code(t, self.limits.moves - 1 - step),
-            };
-            if marked(self.seen.as_slice(), m) {
-                return Some(m);
-            }
+        let mut marked = (0..self.limits.moves)
+            .map(|place| code(t, place))
+            .filter(|m| self.search.seen.has(*m));
+        match way {
+            Way::Forward => marked.next(),
+            Way::Backward => marked.next_back(),
         }
-        None
     }
 
     // The nearest move of t that has to follow u, or that has to come before it.
-    fn nearest(&mut self, way: Way, u: u16, t: u16) -> Result<Answer, Refusal> {
+    fn nearest(&mut self, way: Way, u: u16, t: u16) -> Outcome {
         self.check_move(u)?;
         if t >= self.limits.shuttles {
             return Err(Refusal::NoSuchShuttle);
@@ -198,103 +183,86 @@ impl Graph {
 
     // Whether the move before m on its shuttle, and each move that m waits for, is listed.
     fn ready(&self, m: u16) -> bool {
-        if m % 4096 > 0 && !marked(self.listed.as_slice(), m - 1) {
-            return false;
-        }
-        let mut at = self.entering.first(m as usize);
-        for _step in 0..self.entering.most() {
-            let Some(l) = at else {
-                return true;
-            };
-            if !marked(self.listed.as_slice(), self.entering.end(l)) {
-                return false;
-            }
-            at = self.entering.next(l);
-        }
-        true
+        (m % 4096 == 0 || self.listed.has(m - 1))
+            && self
+                .entering
+                .of(m as usize)
+                .all(|(_, link)| self.listed.has(link.end))
     }
 
     // The move to list next, of those that are seen: that of the lowest shuttle whose next one is ready.
     fn next_listed(&self, places: &[u16; 16]) -> Option<u16> {
-        for s in 0..self.limits.shuttles.min(16) {
-            let m = code(s, places[s as usize]);
-            if places[s as usize] < self.limits.moves
-                && marked(self.seen.as_slice(), m)
-                && self.ready(m)
-            {
-                return Some(m);
-            }
-        }
-        None
+        (0..self.limits.shuttles)
+            .zip(places.iter())
+            .filter(|(_, place)| **place < self.limits.moves)
+            .map(|(s, place)| code(s, *place))
+            .find(|m| self.search.seen.has(*m) && self.ready(*m))
     }
 
-    // Lists the seen moves that are not listed yet, from the position `from` on; where it ends.
-    fn list_seen(&mut self, places: &mut [u16; 16], slice: &mut [u16], from: usize) -> usize {
-        for at in from..slice.len() {
+    // Lists the seen moves that are not listed yet; how many they are.
+    fn list_seen(&mut self, places: &mut [u16; 16], slice: &mut [u16]) -> usize
+        ensures { result ≤ length slice.old }
+    {
+        for (at, entry) in slice.iter_mut().enumerate() {
             let Some(m) = self.next_listed(places) else {
                 return at;
             };
             let s = (m / 4096) as usize;
             places[s] = places[s].saturating_add(1);
-            mark(self.listed.as_mut_slice(), m);
-            slice[at] = m;
+            self.listed.add(m);
+            *entry = m;
         }
         slice.len()
     }
 
-    // How many moves there are, if the slice has room for them.
-    fn check_room(&self, slice: &[u16]) -> Result<usize, Refusal> {
-        let total = self.limits.shuttles as usize * self.limits.moves as usize;
-        if slice.len() < total {
+    // How many moves there are.
+    fn total(&self) -> usize {
+        self.limits.shuttles as usize * self.limits.moves as usize
+    }
+
+    fn check_room(&self, slice: &[u16]) -> Result<(), Refusal> {
+        if slice.len() < self.total() {
             return Err(Refusal::TooShort);
         }
-        Ok(total)
+        Ok(())
     }
 
-    fn list(&mut self, slice: &mut [u16]) -> Result<Answer, Refusal> {
+    fn list(&mut self, slice: &mut [u16]) -> Outcome {
         self.check_room(slice)?;
-        self.seen.as_mut_slice().fill(true);
-        self.listed.as_mut_slice().fill(false);
-        let mut places = [0u16; 16];
-        Ok(Answer::Listed(self.list_seen(&mut places, slice, 0)))
+        self.search.seen.fill(true);
+        self.listed.fill(false);
+        let mut places = [0; 16];
+        Ok(Answer::Listed(self.list_seen(&mut places, slice)))
     }
 
-    fn push(&mut self, v: u16, slice: &mut [u16]) -> Result<Answer, Refusal> {
+    fn push(&mut self, v: u16, slice: &mut [u16]) -> Outcome {
         self.check_move(v)?;
         self.check_room(slice)?;
         self.mark_from(Way::Backward, v, None);
-        self.listed.as_mut_slice().fill(false);
-        let mut places = [0u16; 16];
-        let end = self.list_seen(&mut places, slice, 0);
-        self.seen.as_mut_slice().fill(true);
-        Ok(Answer::Listed(self.list_seen(&mut places, slice, end)))
+        self.listed.fill(false);
+        let mut places = [0; 16];
+        let front = self.list_seen(&mut places, slice);
+        self.search.seen.fill(true);
+        let rest = self.list_seen(&mut places, &mut slice[front..]);
+        Ok(Answer::Listed(front + rest))
     }
 
     fn test(&mut self, slice: &[u16]) -> bool {
-        match self.check_room(slice) {
-            Ok(total) => {
-                if slice.len() > total {
-                    return false;
-                }
-            }
-            Err(_) => return false,
+        if slice.len() != self.total() {
+            return false;
         }
-        self.listed.as_mut_slice().fill(false);
+        self.listed.fill(false);
         for m in slice {
-            if self.check_move(*m).is_err()
-                || marked(self.listed.as_slice(), *m)
-                || !self.ready(*m)
-            {
+            if self.check_move(*m).is_err() || !self.ready(*m) || !self.listed.add(*m) {
                 return false;
             }
-            mark(self.listed.as_mut_slice(), *m);
         }
         true
     }
 
     // Answers a call of a board. It knows no rounds: its questions have 0.
-    pub fn answer(&mut self, ask: Ask, slice: &mut [u16]) -> Answer {
-        let answer = match ask {
+    pub fn answer(&mut self, ask: Ask, slice: &mut [u16]) -> Outcome {
+        match ask {
             Ask::Place(u, v) => self.place(u, v),
             Ask::Remove(u, v) => self.remove(u, v),
             Ask::Before(u, v) => self.before(u, v),
@@ -303,10 +271,6 @@ impl Graph {
             Ask::List => self.list(slice),
             Ask::Push(v) => self.push(v, slice),
             Ask::Test => Ok(Answer::Tested(self.test(slice))),
-        };
-        match answer {
-            Ok(a) => a,
-            Err(e) => Answer::Refused(e),
         }
     }
 }

@@ -3,7 +3,6 @@
 #![tactic(auto)]
 
 pub mod graph;
-pub mod lines;
 mod links;
 pub mod player;
 pub mod random;

@@ -6,11 +6,13 @@ pub struct Random {
     state: u64,
 }
 
-impl Random {
-    pub fn from(seed: u64) -> Random {
+impl From<u64> for Random {
+    fn from(seed: u64) -> Random {
         Random { state: seed }
     }
+}
 
+impl Random {
     // Steps the generator, and takes the remainder by m; 0 where m is 0.
     pub fn draw(&mut self, m: u64) -> u64
         ensures { result ≤ m }

@@ -1,88 +1,134 @@
 // A breadth-first search over the moves: along each shuttle, and along the waits.
 use crate::links::Links;
+use std::alloc::{AllocError, Global};
+use std::mem;
 
 // Which way to go: to the moves that have to follow, or to those that have to come before.
-#[derive(Clone, Copy)]
+#[derive(Clone, Copy, PartialEq, Eq)]
 pub(crate) enum Way {
     Forward,
     Backward,
 }
 
-// Whether the move is marked.
-pub(crate) fn marked(seen: &[bool], m: u16) -> bool {
-    (m as usize) < seen.len() && seen[m as usize]
+// A set of moves. A set of the library would allocate, and no call on the graph may begin to fail.
+#[derive(Drop)]
+pub(crate) struct Marks {
+    marks: Vec<bool>,
 }
 
-pub(crate) fn mark(seen: &mut [bool], m: u16) {
-    if (m as usize) < seen.len() {
-        seen[m as usize] = true;
+impl Marks {
+    pub(crate) fn make(heap: Global, codes: usize) -> Result<Marks, AllocError> {
+        Ok(Marks {
+            marks: Vec::from_elem(heap, false, codes)?,
+        })
+    }
+
+    // Puts every move in, or none.
+    pub(crate) fn fill(&mut self, all: bool) {
+        self.marks.as_mut_slice().fill(all);
+    }
+
+    pub(crate) fn has(&self, m: u16) -> bool {
+        self.marks.get(m as usize).is_some_and(|mark| *mark)
+    }
+
+    // Puts the move in; whether it was not there before.
+    pub(crate) fn add(&mut self, m: u16) -> bool {
+        match self.marks.get_mut(m as usize) {
+            Some(mark) => !mem::replace(mark, true),
+            None => false,
+        }
+    }
+}
+
+// What a search has seen. The queue has room for all moves from the start, since no call on the graph may begin to fail.
+#[derive(Drop)]
+pub(crate) struct Search {
+    pub(crate) seen: Marks,
+    queue: Vec<u16>,
+}
+
+// The moves that a search has reached so far: they are marked, and the first `tail` of the queue. It borrows both, since the search took a sixth longer with its count behind a reference.
+#[derive(Drop)]
+struct Wave<'a> {
+    seen: &'a mut [bool],
+    queue: &'a mut [u16],
+    tail: usize,
+}
+
+impl<'a> Wave<'a> {
+    // Marks the move and queues it, unless it was seen.
+    fn reach(&mut self, m: u16) {
+        if let Some(place) = self.queue.get_mut(self.tail)
+            && let Some(seen) = self.seen.get_mut(m as usize)
+            && !*seen
+        {
+            *seen = true;
+            *place = m;
+            self.tail = self.tail.saturating_add(1);
+        }
+    }
+
+    // The move that was reached at this place of the queue.
+    fn at(&self, place: usize) -> Option<u16> {
+        if place < self.tail {
+            self.queue.get(place).copied()
+        } else {
+            None
+        }
+    }
+
+    fn has(&self, m: u16) -> bool {
+        self.seen.get(m as usize).is_some_and(|seen| *seen)
     }
 }
 
 // The neighbour of the move on its own shuttle.
 fn beside(way: Way, moves: u16, m: u16) -> Option<u16> {
     match way {
-        Way::Forward => {
-            if m % 4096 + 1 < moves {
-                Some(m.saturating_add(1))
-            } else {
-                None
+        Way::Forward => (m % 4096 + 1 < moves).then_some(m.saturating_add(1)),
+        Way::Backward => (m % 4096 > 0).then_some(m.saturating_sub(1)),
+    }
+}
+
+impl Search {
+    pub(crate) fn make(heap: Global, codes: usize) -> Result<Search, AllocError> {
+        Ok(Search {
+            seen: Marks::make(heap, codes)?,
+            queue: Vec::from_elem(heap, 0, codes)?,
+        })
+    }
+
+    // Marks every move that is reached from the start, itself among them, or at least the goal, where that is reached.
+    pub(crate) fn spread(
+        &mut self,
+        links: &Links,
+        way: Way,
+        moves: u16,
+        start: u16,
+        goal: Option<u16>,
+    ) {
+        self.seen.fill(false);
+        let mut wave = Wave {
+            seen: self.seen.marks.as_mut_slice(),
+            queue: self.queue.as_mut_slice(),
+            tail: 0,
+        };
+        wave.reach(start);
+        // by place, since the queue grows as it is gone through
+        for place in 0..wave.queue.len() {
+            let Some(m) = wave.at(place) else {
+                return;
+            };
+            if goal.is_some_and(|g| wave.has(g)) {
+                return;
+            }
+            if let Some(b) = beside(way, moves, m) {
+                wave.reach(b);
+            }
+            for (_, link) in links.of(m as usize) {
+                wave.reach(link.end);
             }
         }
-        Way::Backward => if m % 4096 > 0 { Some(m - 1) } else { None },
-    }
-}
-
-// Marks the move and queues it, unless it was seen; how many are queued then.
-fn reach(seen: &mut [bool], queue: &mut [u16], tail: usize, m: u16) -> usize {
-    if tail < queue.len() && (m as usize) < seen.len() && !seen[m as usize] {
-        seen[m as usize] = true;
-        queue[tail] = m;
-        tail + 1
-    } else {
-        tail
-    }
-}
-
-// Reaches the neighbours of the move along its links.
-fn follow(links: &Links, seen: &mut [bool], queue: &mut [u16], tail: usize, m: u16) -> usize {
-    let mut tail = tail;
-    let mut at = links.first(m as usize);
-    for _step in 0..links.most() {
-        let Some(l) = at else {
-            break;
-        };
-        tail = reach(seen, queue, tail, links.end(l));
-        at = links.next(l);
-    }
-    tail
-}
-
-// Marks every move that is reached from the start, itself among them, or at least the goal, where that is reached.
-pub(crate) fn spread(
-    links: &Links,
-    way: Way,
-    moves: u16,
-    start: u16,
-    goal: Option<u16>,
-    seen: &mut [bool],
-    queue: &mut [u16],
-) {
-    seen.fill(false);
-    let mut tail = reach(seen, queue, 0, start);
-    for head in 0..queue.len() {
-        if head >= tail {
-            break;
-        }
-        if let Some(g) = goal
-            && marked(seen, g)
-        {
-            break;
-        }
-        let m = queue[head];
-        if let Some(b) = beside(way, moves, m) {
-            tail = reach(seen, queue, tail, b);
-        }
-        tail = follow(links, seen, queue, tail, m);
     }
 }

@@ -1,21 +1,21 @@
 // Long random histories of calls, on boards of every table and every store, compared call by call with the graph search.
 #![tactic(auto)]
 
-mod boards;
 mod plan;
+mod playing;
 mod side;
 mod told;
 
-use anyhow::anyhow;
-use boards::{History, Record, StoreKind, TableKind, on_board};
+use anyhow::bail;
+use boards::Design;
 use graph::graph::Limits;
-use graph::lines::say;
-use side::Difference;
-use std::env;
-use told::{asked, reason, told};
+use playing::{Fault, History, Record, on_board};
+use std::{env, io};
+use told::{Asked, Told, rounds_of};
+use words::kinds::{StoreKind, TableKind};
 
 // How many calls each board gets, and where the random numbers begin, unless the arguments say otherwise.
-const STEPS: usize = 2000;
+const STEPS: u64 = 2000;
 
 const SEED: u64 = 88172645463325252;
 
@@ -36,119 +36,81 @@ const SHAPES: [(u16, u16, u16); 12] = [
 ];
 
 // Tables that can fill every cell.
-const WHOLE: [(TableKind, StoreKind); 6] = [
-    (TableKind::Plain, StoreKind::Loose),
-    (TableKind::Plain, StoreKind::Ordered),
-    (TableKind::Full, StoreKind::Loose),
-    (TableKind::Full, StoreKind::Ordered),
-    (TableKind::Sparse, StoreKind::Loose),
-    (TableKind::Sparse, StoreKind::Ordered),
-];
+const WHOLE: [TableKind; 3] = [TableKind::Plain, TableKind::Full, TableKind::Sparse];
 
 // Tables that can be full with a cell empty.
-const SCANT: [(TableKind, StoreKind); 2] = [
-    (TableKind::Sparse, StoreKind::Loose),
-    (TableKind::Sparse, StoreKind::Ordered),
-];
+const SCANT: [TableKind; 1] = [TableKind::Sparse];
 
-fn name_of(table: TableKind) -> &'static str {
-    match table {
-        TableKind::Plain => "plain",
-        TableKind::Full => "full",
-        TableKind::Sparse => "sparse",
-    }
+const STORES: [StoreKind; 2] = [StoreKind::Loose, StoreKind::Ordered];
+
+// Prints on which board of which history the first difference was: the table, the store, the shuttles, the moves, the waits and the cells.
+fn print_board(rt: &HostRuntime, history: History, design: Design) -> io::Result<()> {
+    let History { limits, seed, .. } = history;
+    let Design { table, store, .. } = design;
+    let (shuttles, moves) = (limits.shuttles, limits.moves);
+    let (waits, cells) = (limits.waits, limits.cells);
+    println!(rt; "seed {seed}")?;
+    println!(rt; "{table} {store} {shuttles} {moves} {waits} {cells}")
 }
 
-fn store_name(store: StoreKind) -> &'static str {
-    match store {
-        StoreKind::Loose => "loose",
-        StoreKind::Ordered => "ordered",
-    }
+// Prints the call, its two outcomes and what differed.
+fn print_fault(rt: &HostRuntime, fault: Fault) -> io::Result<()> {
+    let Fault { step, difference } = fault;
+    let call = Asked(difference.ask);
+    let board = Told(difference.board);
+    let rounds = rounds_of(difference.board).unwrap_or(0);
+    let graph = Told(difference.graph);
+    let what = difference.what;
+    println!(rt; "step {step}")?;
+    println!(rt; "call {call}")?;
+    println!(rt; "board {board} {rounds}")?;
+    println!(rt; "graph {graph}")?;
+    println!(rt; "they differ in {what}")
 }
 
-// Prints the call, its two answers and what differed.
-fn print_difference(rt: &HostRuntime, step: usize, d: Difference) -> anyhow::Result<()> {
-    let call = asked(d.ask);
-    let board = told(d.board);
-    let graph = told(d.graph);
-    say(rt, "step", "", &[step as u64])?;
-    say(
-        rt,
-        "call",
-        call.word,
-        &[call.first as u64, call.second as u64],
-    )?;
-    say(rt, "board", board.word, &[board.number, board.rounds])?;
-    say(rt, "graph", graph.word, &[graph.number])?;
-    let (word, numbers) = reason(d.what);
-    say(rt, "they differ in", word, &numbers)?;
-    Ok(())
-}
-
-// Prints on which board of which history: the table, the store, the shuttles, the moves, the waits and the cells the first difference was.
-fn print_board(
-    rt: &HostRuntime,
-    history: History,
-    table: TableKind,
-    store: StoreKind,
-) -> anyhow::Result<()> {
-    let limits = history.limits;
-    say(rt, "seed", "", &[history.seed])?;
-    say(
-        rt,
-        name_of(table),
-        store_name(store),
-        &[
-            limits.shuttles as u64,
-            limits.moves as u64,
-            limits.waits as u64,
-            limits.cells as u64,
-        ],
-    )?;
-    Ok(())
-}
-
-// Plays the history on boards of these kinds, up to the first difference; whether there was one.
+// Plays the history on boards of these tables and every store. The first difference is printed, and ends it.
 fn on_all(
     rt: &HostRuntime,
     history: History,
-    kinds: &[(TableKind, StoreKind)],
+    tables: &[TableKind],
     record: &mut Record,
-) -> anyhow::Result<bool> {
-    for i in 0..kinds.len() {
-        let (table, store) = kinds[i];
-        let fault = on_board(rt.alloc(), table, store, history, record)?;
-        if let Some(fault) = fault {
-            print_board(rt, history, table, store)?;
-            print_difference(rt, fault.step, fault.difference)?;
-            return Ok(true);
+) -> anyhow::Result<()> {
+    for table in tables {
+        for store in STORES {
+            let design = history.design(*table, store);
+            if let Some(fault) = on_board(rt.alloc(), design, history, record)? {
+                print_board(rt, history, design)?;
+                print_fault(rt, fault)?;
+                println!(rt; "a board and the graph search differ")?;
+                bail!("a board and the graph search differ");
+            }
         }
     }
-    Ok(false)
+    Ok(())
+}
+
+// The number of an argument, if it is given.
+fn number(word: Option<String>, otherwise: u64) -> anyhow::Result<u64> {
+    match word {
+        Some(word) => Ok(word.as_str().parse::<u64>()?),
+        None => Ok(otherwise),
+    }
 }
 
 // The arguments: how many calls, and the seed.
-fn arguments(rt: &HostRuntime) -> anyhow::Result<(usize, u64)> {
+fn arguments(rt: &HostRuntime) -> anyhow::Result<(u64, u64)> {
     let mut args = env::args(rt)?;
     let _ = args.next();
-    let steps = match args.next() {
-        Some(word) => word.as_str().parse::<usize>()?,
-        None => STEPS,
-    };
-    let seed = match args.next() {
-        Some(word) => word.as_str().parse::<u64>()?,
-        None => SEED,
-    };
-    Ok((steps, seed))
+    Ok((number(args.next(), STEPS)?, number(args.next(), SEED)?))
 }
 
 // Prints what was done.
-fn print_counts(rt: &HostRuntime, record: &Record) -> anyhow::Result<()> {
-    say(rt, "boards", "", &[record.boards])?;
+fn print_counts(rt: &HostRuntime, record: &Record) -> io::Result<()> {
+    let boards = record.boards;
+    println!(rt; "boards {boards}")?;
     record.tally.print_calls(rt)?;
     record.tally.print_rounds(rt)?;
-    say(rt, "nothing differed", "", &[])?;
-    Ok(())
+    println!(rt; "nothing differed")
 }
 
 // The same history for a table that can fill a quarter of its cells.
@@ -165,16 +127,13 @@ fn run(rt: &HostRuntime) -> anyhow::Result<()> {
         let whole = History {
             limits: Limits::whole(shuttles, moves, waits),
             seed,
-            steps,
+            steps: steps as usize,
         };
-        if on_all(rt, whole, &WHOLE, &mut record)?
-            || on_all(rt, scant(whole), &SCANT, &mut record)?
-        {
-            say(rt, "a board and the graph search differ", "", &[])?;
-            return Err(anyhow!("a board and the graph search differ"));
-        }
+        on_all(rt, whole, &WHOLE, &mut record)?;
+        on_all(rt, scant(whole), &SCANT, &mut record)?;
     }
-    print_counts(rt, &record)
+    print_counts(rt, &record)?;
+    Ok(())
 }
 
 fn main(rt: HostRuntime) -> anyhow::Result<()> {

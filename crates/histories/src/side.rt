@@ -1,25 +1,45 @@
-// A board beside the graph search: the same calls for both, and their answers compared.
+// A board beside the graph search: the same calls for both, and their outcomes compared.
 use crate::plan::Plan;
-use crate::told::{rounds_of, told};
+use crate::told::{rounds_of, without_rounds};
 use graph::graph::{Graph, Limits};
 use graph::player::Player;
-use runs::calls::{Answer, Ask};
+use runs::calls::{Answer, Ask, Outcome};
 use std::alloc::{AllocError, Global};
+use std::fmt;
 
-// What differed: the answers, a place of the slices and the codes there, or the rounds, which should have been these or, without a number, fewer than the shuttles.
+// What differed: the outcomes, a place of the slices and the codes there, or the rounds, which should have been these or, without a number, fewer than the shuttles.
 #[derive(Clone, Copy)]
 pub enum What {
-    Answers,
-    Slices(usize, u16, u16),
+    Outcomes,
+    Slices { at: usize, board: u16, graph: u16 },
     Rounds(Option<u32>),
+}
+
+// Each is shown with three numbers, 0 where it has none.
+impl fmt::Display for What {
+    fn fmt<W: fmt::Write>(&self, f: &mut fmt::Formatter<W>) -> fmt::Result {
+        match *self {
+            What::Outcomes => f.write_str("answers 0 0 0"),
+            What::Slices { at, board, graph } => write!(f, "slices at {at} {board} {graph}"),
+            What::Rounds(Some(others)) => write!(f, "rounds, others had {others} 0 0"),
+            What::Rounds(None) => f.write_str("rounds 0 0 0"),
+        }
+    }
+}
+
+// A call, and what came of it on the board.
+#[derive(Clone, Copy)]
+pub struct Turn {
+    pub ask: Ask,
+    pub outcome: Outcome,
 }
 
 // A call that was answered in two ways.
 #[derive(Clone, Copy)]
 pub struct Difference {
     pub ask: Ask,
-    pub board: Answer,
-    pub graph: Answer,
+    pub board: Outcome,
+    pub graph: Outcome,
     pub what: What,
 }
 
@@ -36,33 +56,24 @@ pub struct Side {
 // How many codes the slices have behind those of all moves.
 const BEHIND: usize = 5;
 
-// Whether the answers are the same, but for their rounds.
-fn same(a: Answer, b: Answer) -> bool {
-    let x = told(a);
-    let y = told(b);
-    x.word == y.word && x.number == y.number
-}
-
 // The first place at which the slices differ, and what they hold there.
-fn differing(a: &[u16], b: &[u16]) -> Option<What> {
-    for i in 0..a.len().min(b.len()) {
-        if a[i] != b[i] {
-            return Some(What::Slices(i, a[i], b[i]));
-        }
-    }
-    None
-}
-
-fn copy(from: &[u16], to: &mut [u16]) {
-    for i in 0..from.len().min(to.len()) {
-        to[i] = from[i];
-    }
+fn differing(boards: &[u16], graphs: &[u16]) -> Option<What> {
+    let (at, (board, graph)) = boards
+        .iter()
+        .zip(graphs)
+        .enumerate()
+        .find(|(_, (board, graph))| board != graph)?;
+    Some(What::Slices {
+        at,
+        board: *board,
+        graph: *graph,
+    })
 }
 
 // The slice's first codes.
 fn front(slice: &mut [u16], length: usize) -> &mut [u16] {
     let length = length.min(slice.len());
-    &mut slice[0..length]
+    &mut slice[..length]
 }
 
 // How many moves there are.
@@ -96,44 +107,47 @@ impl Side {
             }
             _ => return,
         }
-        copy(self.graphs.as_slice(), self.boards.as_mut_slice());
+        // `copy_from_slice` would need that both are as long, which a ghost field could keep, but then neither could be lent
+        for (board, graph) in self.boards.iter_mut().zip(self.graphs.iter()) {
+            *board = *graph;
+        }
     }
 
-    // What is wrong with the answers to a call, or with the slices then.
-    fn compare(&self, board: Answer, graph: Answer) -> Option<What> {
-        if !same(board, graph) {
-            return Some(What::Answers);
+    // What is wrong with the outcomes of a call, or with the slices then.
+    fn compare(&self, board: Outcome, graph: Outcome) -> Option<What> {
+        if without_rounds(board) != graph {
+            return Some(What::Outcomes);
         }
-        if let Some(r) = rounds_of(board)
-            && r >= self.limits.shuttles as u32
-        {
+        if rounds_of(board).is_some_and(|rounds| rounds >= self.limits.shuttles as u32) {
             return Some(What::Rounds(None));
         }
         differing(self.boards.as_slice(), self.graphs.as_slice())
     }
 
-    // Makes the next call on the board and on the graph: the call, the board's answer, and what differed.
-    pub fn step<P: Player>(&mut self, board: &mut P) -> (Ask, Answer, Option<Difference>) {
+    // Makes the next call on the board and on the graph.
+    pub fn step<P: Player>(&mut self, player: &mut P) -> Result<Turn, Difference> {
         let ask = self.plan.next();
         let moves = moves_of(self.limits);
         let length = self.plan.length(moves, self.boards.len());
         self.fill(ask);
-        let ours = board.play(ask, front(self.boards.as_mut_slice(), length));
-        let theirs = self
+        let board = player.play(ask, front(self.boards.as_mut_slice(), length));
+        let graph = self
             .graph
             .answer(ask, front(self.graphs.as_mut_slice(), length));
-        if let (Ask::Place(u, v), Answer::Done) = (ask, theirs) {
+        if let (Ask::Place(u, v), Ok(Answer::Done)) = (ask, graph) {
             self.plan.remember(u, v);
         }
-        let Some(what) = self.compare(ours, theirs) else {
-            return (ask, ours, None);
-        };
-        let difference = Difference {
-            ask,
-            board: ours,
-            graph: theirs,
-            what,
-        };
-        (ask, ours, Some(difference))
+        match self.compare(board, graph) {
+            None => Ok(Turn {
+                ask,
+                outcome: board,
+            }),
+            Some(what) => Err(Difference {
+                ask,
+                board,
+                graph,
+                what,
+            }),
+        }
     }
 }

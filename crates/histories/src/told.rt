@@ -1,75 +1,57 @@
-// Calls and answers in words.
-use crate::side::What;
-use graph::tally::{kind_of, name_of};
-use runs::calls::{Answer, Ask};
-
-// An answer: a word, its number and its rounds, 0 where it has none.
-#[derive(Clone, Copy)]
-pub struct Words {
-    pub word: &'static str,
-    pub number: u64,
-    pub rounds: u64,
-}
-
-// The words of an answer.
-pub fn told(answer: Answer) -> Words {
-    let (word, number, rounds) = match answer {
-        Answer::Pending => ("pending", 0, 0),
-        Answer::Done => ("done", 0, 0),
-        Answer::Refused(e) => ("refused", e.number() as u64, 0),
-        Answer::Truth(yes, rounds) => ("before", yes as u64, rounds),
-        Answer::Found(Some(u), rounds) => ("found", u as u64, rounds),
-        Answer::Found(None, rounds) => ("none", 0, rounds),
-        Answer::Listed(n) => ("listed", n as u64, 0),
-        Answer::Tested(yes) => ("tested", yes as u64, 0),
-    };
-    Words {
-        word,
-        number,
-        rounds: rounds as u64,
-    }
-}
+// Calls and their outcomes in words.
+use graph::tally::Kind;
+use runs::calls::{Answer, Ask, Outcome};
+use std::fmt;
 
 // The rounds of a question that was taken.
-pub fn rounds_of(answer: Answer) -> Option<u32> {
-    match answer {
-        Answer::Truth(_, rounds) | Answer::Found(_, rounds) => Some(rounds),
+pub fn rounds_of(outcome: Outcome) -> Option<u32> {
+    match outcome {
+        Ok(Answer::Truth(_, rounds) | Answer::Found(_, rounds)) => Some(rounds),
         _ => None,
     }
 }
 
-// What differed: a place of the slices with the codes of both, or the rounds of the boards before.
-pub fn reason(what: What) -> (&'static str, [u64; 3]) {
-    match what {
-        What::Answers => ("answers", [0; 3]),
-        What::Slices(i, board, graph) => ("slices at", [i as u64, board as u64, graph as u64]),
-        What::Rounds(Some(r)) => ("rounds, others had", [r as u64, 0, 0]),
-        What::Rounds(None) => ("rounds", [0; 3]),
+// The outcome with no rounds, as the graph search gives it.
+pub fn without_rounds(outcome: Outcome) -> Outcome {
+    match outcome {
+        Ok(Answer::Truth(yes, _)) => Ok(Answer::Truth(yes, 0)),
+        Ok(Answer::Found(found, _)) => Ok(Answer::Found(found, 0)),
+        other => other,
     }
 }
 
-// A call: its word and its two numbers.
+// A call, shown by its kind and its two numbers, 0 where it has none.
 #[derive(Clone, Copy)]
-pub struct Request {
-    pub word: &'static str,
-    pub first: u16,
-    pub second: u16,
+pub struct Asked(pub Ask);
+
+impl fmt::Display for Asked {
+    fn fmt<W: fmt::Write>(&self, f: &mut fmt::Formatter<W>) -> fmt::Result {
+        let kind = Kind::from(self.0);
+        let (first, second) = match self.0 {
+            Ask::Place(u, v) | Ask::Remove(u, v) | Ask::Before(u, v) => (u, v),
+            Ask::FirstAfter(u, t) | Ask::LastBefore(u, t) => (u, t),
+            Ask::Push(v) => (v, 0),
+            Ask::List | Ask::Test => (0, 0),
+        };
+        write!(f, "{kind} {first} {second}")
+    }
 }
 
-pub fn asked(ask: Ask) -> Request {
-    let (first, second) = match ask {
-        Ask::Place(u, v) => (u, v),
-        Ask::Remove(u, v) => (u, v),
-        Ask::Before(u, v) => (u, v),
-        Ask::FirstAfter(u, t) => (u, t),
-        Ask::LastBefore(u, t) => (u, t),
-        Ask::Push(v) => (v, 0),
-        Ask::List | Ask::Test => (0, 0),
-    };
-    let word = name_of(kind_of(ask));
-    Request {
-        word,
-        first,
-        second,
+// What came of a call, shown by a word and its number, 0 where it has none, and without its rounds.
+#[derive(Clone, Copy)]
+pub struct Told(pub Outcome);
+
+impl fmt::Display for Told {
+    fn fmt<W: fmt::Write>(&self, f: &mut fmt::Formatter<W>) -> fmt::Result {
+        let (word, number) = match self.0 {
+            Err(refusal) => ("refused", refusal.number() as usize),
+            Ok(Answer::Done) => ("done", 0),
+            Ok(Answer::Truth(yes, _)) => ("before", yes as usize),
+            Ok(Answer::Found(Some(u), _)) => ("found", u as usize),
+            Ok(Answer::Found(None, _)) => ("none", 0),
+            Ok(Answer::Listed(n)) => ("listed", n),
+            Ok(Answer::Tested(yes)) => ("tested", yes as usize),
+        };
+        write!(f, "{word} {number}")
     }
 }
