@@ -123,10 +123,10 @@ fn run(rt: &HostRuntime) -> anyhow::Result<()> {
     let shuttles = needed(args.next())?.as_str().parse::<u16>()?;
     let moves = needed(args.next())?.as_str().parse::<u16>()?;
     let steps = needed(args.next())?.as_str().parse::<u32>()?;
-    if check_sizes(shuttles, moves).is_err() {
+    let size = Size::new(shuttles, moves, steps);
+    if check_sizes(size.aisle).is_err() {
         bail!("a size is outside its limits");
     }
-    let size = Size::new(shuttles, moves, steps);
     run_one(Game { rt, size }, who)?;
     Ok(())
 }

@@ -56,7 +56,7 @@ pub trait Use: Drop {
 fn plain_numbers(aisle: Aisle) -> usize
     ensures { result ≡ if_done (sizable aisle.shuttles aisle.moves) 0 (aisle.shuttles * aisle.shuttles * aisle.moves) }
 {
-    match check_sizes(aisle.shuttles, aisle.moves) {
+    match check_sizes(aisle) {
         Ok(()) => aisle.shuttles as usize * aisle.shuttles as usize * aisle.moves as usize,
         Err(_) => 0,
     }
@@ -74,7 +74,7 @@ fn leaves_for(moves: u16) -> usize
 fn full_numbers(aisle: Aisle) -> usize
     ensures { result ≡ if_done (sizable aisle.shuttles aisle.moves) 0 (numbers_of aisle.shuttles aisle.moves) }
 {
-    match check_sizes(aisle.shuttles, aisle.moves) {
+    match check_sizes(aisle) {
         Ok(()) => aisle.shuttles as usize * aisle.shuttles as usize * (2 * leaves_for(aisle.moves)),
         Err(_) => 0,
     }
@@ -84,7 +84,7 @@ fn full_numbers(aisle: Aisle) -> usize
 fn sparse_records(design: Design) -> usize
     ensures { result ≡ if_done (sizable design.aisle.shuttles design.aisle.moves) 0 (min design.cells 65535) }
 {
-    match check_sizes(design.aisle.shuttles, design.aisle.moves) {
+    match check_sizes(design.aisle) {
         Ok(()) => design.cells.min(MOST),
         Err(_) => 0,
     }
@@ -115,21 +115,20 @@ fn on_table<T: Table + Drop, U: Use>(
 pub fn with_board<U: Use>(heap: Global, design: Design, user: U) -> Result<U::Outcome, AllocError>
     ensures { IfOk result (λ outcome. U.gives user (limits_of design) outcome) }
 {
-    let Aisle { shuttles, moves } = design.aisle;
     match design.table {
         TableKind::Plain => {
             let mut numbers = Vec::from_elem(heap, 0, plain_numbers(design.aisle))?;
-            let table = Plain::make(shuttles, moves, numbers.as_mut_slice());
+            let table = Plain::make(design.aisle, numbers.as_mut_slice());
             on_table(heap, table, design, user)
         }
         TableKind::Full => {
             let mut numbers = Vec::from_elem(heap, 0, full_numbers(design.aisle))?;
-            let table = FullTree::make(shuttles, moves, numbers.as_mut_slice());
+            let table = FullTree::make(design.aisle, numbers.as_mut_slice());
             on_table(heap, table, design, user)
         }
         TableKind::Sparse => {
             let mut records = Vec::from_elem(heap, Record::Free(None), sparse_records(design))?;
-            let table = SparseTree::make(shuttles, moves, records.as_mut_slice());
+            let table = SparseTree::make(design.aisle, records.as_mut_slice());
             on_table(heap, table, design, user)
         }
     }

@@ -8,7 +8,7 @@ use Rattle.questions.specs.declared.rounds.Way.TheVariants.{After, Before as Ahe
 use Rattle.board.specs.Standing.{Limits, Waits, Sound, Stands, lengths, placed_waits, removed_waits, PlaceKeeps, RemoveKeeps, FindsSo, TellsSo, ListsAt, PushesAt, TestsAt}
 use Rattle.runs.specs.declared.calls.Ask.TheVariants.{Place, Remove, Before as IsBefore, FirstAfter, LastBefore, List as ListMoves, Push as PushMove, Test as TestOrder}
 use Rattle.runs.specs.declared.calls.Answer.TheVariants.{Tested as TestedAs}
-use Rattle.runs.specs.Law.{Outcome, done_answer, truth_answer, found_answer, count_answer, after_call, Upright, SilentKeeps, StepKeeps}
+use Rattle.runs.specs.Law.{Outcome, done_answer, truth_answer, found_answer, count_answer, after_call, Upright, StepKeeps}
 
 pub upright : (b : Limits) (W : Waits) → Sound b W → Upright b W
 upright b W h = record { order = h.ordered; before = exact b.shuttles (lengths b) W h.ordered }
@@ -22,28 +22,24 @@ after_removed W u v (Ok x) = refl
 after_removed W u v (Err e) = refl
 
 module _ (m : Meaning) (h : Holding) (a : Outcome) where
-  pub step_place : (m' : Meaning) (h' : Holding) (u v : ℕ) (r : Result Unit Refusal) → PlaceKeeps m h u v r m' h' → a ≡ done_answer r → SilentKeeps m h (Place u v) a m' h'
-  step_place m' h' u v r p e = record {
-    slice = λ old.
-        subst (λ y. StepKeeps m h (Place u v) old y old m' h') (sym e)
-        (record { keeps = λ b W st. let k = p b W st in (((r, refl, k.0, k.1), refl), subst (λ V. Stands b V m' h') (after_placed W u v r) k.2) });
-  }
+  pub step_place : (m' : Meaning) (h' : Holding) (u v : ℕ) (old : List ℕ) (r : Result Unit Refusal) → PlaceKeeps m h u v r m' h' → a ≡ done_answer r → StepKeeps m h (Place u v) old a old m' h'
+  step_place m' h' u v old r p e =
+      subst (λ y. StepKeeps m h (Place u v) old y old m' h') (sym e)
+      (record { keeps = λ b W st. let k = p.at b W st in (((r, refl, k.0, k.1), refl), subst (λ V. Stands b V m' h') (after_placed W u v r) k.2) })
 
-  pub step_remove : (m' : Meaning) (h' : Holding) (u v : ℕ) (r : Result Unit Refusal) → RemoveKeeps m h u v r m' h' → a ≡ done_answer r → SilentKeeps m h (Remove u v) a m' h'
-  step_remove m' h' u v r p e = record {
-    slice = λ old.
-        subst (λ y. StepKeeps m h (Remove u v) old y old m' h') (sym e)
-        (record { keeps = λ b W st. let k = p b W st in ((ap done_answer k.0, refl), subst (λ V. Stands b V m' h') (after_removed W u v r) k.1) });
-  }
+  pub step_remove : (m' : Meaning) (h' : Holding) (u v : ℕ) (old : List ℕ) (r : Result Unit Refusal) → RemoveKeeps m h u v r m' h' → a ≡ done_answer r → StepKeeps m h (Remove u v) old a old m' h'
+  step_remove m' h' u v old r p e =
+      subst (λ y. StepKeeps m h (Remove u v) old y old m' h') (sym e)
+      (record { keeps = λ b W st. let k = p.at b W st in ((ap done_answer k.0, refl), subst (λ V. Stands b V m' h') (after_removed W u v r) k.1) })
 
-  pub step_before : (u v : ℕ) (r : Result Bool Refusal) (c : ℕ) → TellsSo m h u v r c → a ≡ truth_answer r c → SilentKeeps m h (IsBefore u v) a m h
-  step_before u v r c p e = record { slice = λ old. record { keeps = λ b W st. (((r, c, e, p b W st), refl), st) } }
+  pub step_before : (u v : ℕ) (old : List ℕ) (r : Result Bool Refusal) (c : ℕ) → TellsSo m h u v r c → a ≡ truth_answer r c → StepKeeps m h (IsBefore u v) old a old m h
+  step_before u v old r c p e = record { keeps = λ b W st. (((r, c, e, p.at b W st), refl), st) }
 
-  pub step_first : (u t : ℕ) (r : Result (Option ℕ) Refusal) (c : ℕ) → FindsSo After m h u t r c → a ≡ found_answer r c → SilentKeeps m h (FirstAfter u t) a m h
-  step_first u t r c p e = record { slice = λ old. record { keeps = λ b W st. (((r, c, e, p b W st), refl), st) } }
+  pub step_first : (u t : ℕ) (old : List ℕ) (r : Result (Option ℕ) Refusal) (c : ℕ) → FindsSo After m h u t r c → a ≡ found_answer r c → StepKeeps m h (FirstAfter u t) old a old m h
+  step_first u t old r c p e = record { keeps = λ b W st. (((r, c, e, p.at b W st), refl), st) }
 
-  pub step_last : (u t : ℕ) (r : Result (Option ℕ) Refusal) (c : ℕ) → FindsSo Ahead m h u t r c → a ≡ found_answer r c → SilentKeeps m h (LastBefore u t) a m h
-  step_last u t r c p e = record { slice = λ old. record { keeps = λ b W st. (((r, c, e, p b W st), refl), st) } }
+  pub step_last : (u t : ℕ) (old : List ℕ) (r : Result (Option ℕ) Refusal) (c : ℕ) → FindsSo Ahead m h u t r c → a ≡ found_answer r c → StepKeeps m h (LastBefore u t) old a old m h
+  step_last u t old r c p e = record { keeps = λ b W st. (((r, c, e, p.at b W st), refl), st) }
 
   pub step_list : (old new : List ℕ) (r : Result ℕ Refusal) → ListsAt m h old new r → a ≡ count_answer r → StepKeeps m h ListMoves old a new m h
   step_list old new r p e = record { keeps = λ b W st. ((r, e, p.at b W st), st) }

@@ -110,7 +110,3 @@ OneOutcome b = (es fs : List Event) → SameCalls es fs → Law b es → Law b f
 -- what one call says of all waits that stand on its board
 pub record StepKeeps (m : Meaning) (h : Holding) (q : Ask) (old : List ℕ) (a : Outcome) (new : List ℕ) (m' : Meaning) (h' : Holding) : Type 0 where
   pub keeps : (b : Limits) (W : Waits) → Stands b W m h → Answered b W q old a new × Stands b (after_call W q a) m' h'
-
--- the same of a call that leaves its slice alone, whatever that holds
-pub record SilentKeeps (m : Meaning) (h : Holding) (q : Ask) (a : Outcome) (m' : Meaning) (h' : Holding) : Type 0 where
-  pub slice : (old : List ℕ) → StepKeeps m h q old a old m' h'
