@@ -115,8 +115,7 @@ impl Iterator for Script {
 
 // Answers a line that asks for a board, and says whether it is made.
 fn announce(rt: &HostRuntime, setup: Setup) -> Result<bool, Fault> {
-    let Aisle { shuttles, moves } = setup.aisle();
-    match check_sizes(shuttles, moves) {
+    match check_sizes(setup.aisle()) {
         Ok(()) => {
             rt.println(setup)?;
             Ok(true)

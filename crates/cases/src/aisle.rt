@@ -7,6 +7,7 @@ use stores::loose::Loose;
 use stores::wait::Wait;
 use tables::plain::Plain;
 use words::Refusal;
+use words::aisles::Aisle;
 
 // A call with a slice of so many codes, all 7.
 fn call(heap: Global, ask: Ask, size: usize) -> Result<Call, Fail> {
@@ -30,7 +31,7 @@ fn run(calls: &mut [Call]) {
         first: 9,
         second: 9,
     }; 4];
-    let table = Plain::make(3, 3, &mut cells);
+    let table = Plain::make(Aisle::new(3, 3), &mut cells);
     replay(table, Loose::make(&mut records), calls);
 }
 

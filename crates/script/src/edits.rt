@@ -190,8 +190,8 @@ pub fn unpack(heap: Global, file: &[u8]) -> Result<String, Damage>
 {
     let header = read_header(file).ok_or(Damage::Form)?;
     let setup = Setup {
-        shuttles: u32::from(header.shuttles),
-        moves: u32::from(header.moves),
+        shuttles: u32::from(header.aisle.shuttles),
+        moves: u32::from(header.aisle.moves),
         table: TableKind::Plain,
         store: StoreKind::Loose,
     };

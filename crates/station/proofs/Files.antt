@@ -20,23 +20,23 @@ some_bytes bs e = (formed bs (sym e)).some
 -- the checks behind that of the form, by the header that was read
 header_gives : (f : Bool) (bs : List ℕ) (room : ℕ) (h : Header) → Some h ≡ cond f (Some (header_told bs)) None
     → then (then (unless f 10) (then (unless (sizes_taken bs) 11) (unless (leb (24 * (count_of bs + 1)) room) 9))) (Ok (header_told bs))
-    ≡ then (then (unless (sizes_within h.shuttles h.moves) 11) (unless (leb (24 * (h.steps + 1)) room) 9)) (Ok h)
+    ≡ then (then (unless (sizes_within h.aisle.shuttles h.aisle.moves) 11) (unless (leb (24 * (h.steps + 1)) room) 9)) (Ok h)
 unfolding sizes_taken
 header_gives false bs room h e = let z : ◌≡◌ {A = ℕ} 0 1 = cc in absurd (omega arith)
 header_gives true bs room h e =
     let z : header_told bs ≡ h = cc in
-    ap (λ (x : Header). then (then (unless (sizes_within x.shuttles x.moves) 11) (unless (leb (24 * (x.steps + 1)) room) 9)) (Ok x)) z
+    ap (λ (x : Header). then (then (unless (sizes_within x.aisle.shuttles x.aisle.moves) 11) (unless (leb (24 * (x.steps + 1)) room) 9)) (Ok x)) z
 
-pub refused_sizes : (bs : List ℕ) (room : ℕ) (h : Header) → Some h ≡ header_of bs → false ≡ sizes_within h.shuttles h.moves → Err (numbered 11) ≡ header_taken bs room
+pub refused_sizes : (bs : List ℕ) (room : ℕ) (h : Header) → Some h ≡ header_of bs → false ≡ sizes_within h.aisle.shuttles h.aisle.moves → Err (numbered 11) ≡ header_taken bs room
 refused_sizes bs room h e s =
     sym (header_gives (well_formed bs) bs room h e ∙ ap (λ b. then (then (unless b 11) (unless (leb (24 * (h.steps + 1)) room) 9)) (Ok h)) (sym s))
 
-pub refused_room : (bs : List ℕ) (room : ℕ) (h : Header) → Some h ≡ header_of bs → true ≡ sizes_within h.shuttles h.moves → room < 24 * (h.steps + 1) → Err (numbered 9) ≡ header_taken bs room
+pub refused_room : (bs : List ℕ) (room : ℕ) (h : Header) → Some h ≡ header_of bs → true ≡ sizes_within h.aisle.shuttles h.aisle.moves → room < 24 * (h.steps + 1) → Err (numbered 9) ≡ header_taken bs room
 refused_room bs room h e s l =
     let t : leb (24 * (h.steps + 1)) room ≡ false = grind (arith, nat_tests) in
     sym (header_gives (well_formed bs) bs room h e ∙ ap (λ b. then (then (unless b 11) (unless (leb (24 * (h.steps + 1)) room) 9)) (Ok h)) (sym s) ∙ ap (λ b. then (unless b 9) (Ok h)) t)
 
-pub header_goes : (bs : List ℕ) (room : ℕ) (h : Header) → Some h ≡ header_of bs → true ≡ sizes_within h.shuttles h.moves → 24 * (h.steps + 1) ≤ room → Ok h ≡ header_taken bs room
+pub header_goes : (bs : List ℕ) (room : ℕ) (h : Header) → Some h ≡ header_of bs → true ≡ sizes_within h.aisle.shuttles h.aisle.moves → 24 * (h.steps + 1) ≤ room → Ok h ≡ header_taken bs room
 header_goes bs room h e s l =
     let t : leb (24 * (h.steps + 1)) room ≡ true = grind (arith, nat_tests) in
     sym (header_gives (well_formed bs) bs room h e ∙ ap (λ b. then (then (unless b 11) (unless (leb (24 * (h.steps + 1)) room) 9)) (Ok h)) (sym s) ∙ ap (λ b. then (unless b 9) (Ok h)) t)

@@ -63,7 +63,7 @@ pub record Going (b : Limits) (file old : List ℕ) (i at : ℕ) (out : List ℕ
 module _ (b : Limits) (file old : List ℕ) where
   -- the first line tells the file's header
   pub going_none : (x : Header) → x ≡ header_told file → ((p : ℕ) → Fits w8 (get_or file p 0))
-      → (m : Meaning) (h : Holding) (out : List ℕ) (at : ℕ) → Stands b [] m h → Pours old 0 (first_line x.shuttles x.moves x.steps) out at → Going b file old 0 at out m h
+      → (m : Meaning) (h : Holding) (out : List ℕ) (at : ℕ) → Stands b [] m h → Pours old 0 (first_line x.aisle.shuttles x.aisle.moves x.steps) out at → Going b file old 0 at out m h
   going_none x e fit m h out at st p = record {
     answers = [];
     size = refl;
@@ -72,9 +72,9 @@ module _ (b : Limits) (file old : List ℕ) where
     stands = st;
     written = pours_same
         (append-nil (first_line (shuttles_of file) (moves_of file) (count_of file))
-        ∙ sym (ap (λ (y : Header). first_line y.shuttles y.moves y.steps) e))
+        ∙ sym (ap (λ (y : Header). first_line y.aisle.shuttles y.aisle.moves y.steps) e))
         p;
-    room = omega (arith, p.next, first_line_short x.shuttles x.moves x.steps (fits_in 0 x.shuttles (ap (λ (y : Header). y.shuttles) e)) (fits_in 2 x.moves (ap (λ (y : Header). y.moves) e)) (fits_in 4 x.steps (ap (λ (y : Header). y.steps) e)));
+    room = omega (arith, p.next, first_line_short x.aisle.shuttles x.aisle.moves x.steps (fits_in 0 x.aisle.shuttles (ap (λ (y : Header). y.aisle.shuttles) e)) (fits_in 2 x.aisle.moves (ap (λ (y : Header). y.aisle.moves) e)) (fits_in 4 x.steps (ap (λ (y : Header). y.steps) e)));
   }
     where
       fits_in : (q y : ℕ) → y ≡ number_at file q → y < 65536

@@ -97,21 +97,21 @@ full_ok k n w =
 -- a table that is made of the file's sizes is empty
 module _ (file : List ℕ) (h : Header) (e : h ≡ header_told file) (m : Meaning) where
   emptied : (q : ℕ → ℕ → Result Unit Refusal) → passed ≡ q (shuttles_of file) (moves_of file)
-      → m ≡ if_done (q h.shuttles h.moves) (full_meaning 1 1 (λ s t i. None)) (full_meaning h.shuttles h.moves (λ s t i. None)) → m ≡ empty_table file
+      → m ≡ if_done (q h.aisle.shuttles h.aisle.moves) (full_meaning 1 1 (λ s t i. None)) (full_meaning h.aisle.shuttles h.aisle.moves (λ s t i. None)) → m ≡ empty_table file
   emptied q ok em =
-      em ∙ ap (λ (x : Header). if_done (q x.shuttles x.moves) (full_meaning 1 1 (λ s t i. None)) (full_meaning x.shuttles x.moves (λ s t i. None))) e
+      em ∙ ap (λ (x : Header). if_done (q x.aisle.shuttles x.aisle.moves) (full_meaning 1 1 (λ s t i. None)) (full_meaning x.aisle.shuttles x.aisle.moves (λ s t i. None))) e
       ∙ ap (λ r. if_done r (full_meaning 1 1 (λ s t i. None)) (empty_table file)) (sym ok)
 
-  plain_emptied : sizes_taken file ≡ true → m ≡ plain_made h.shuttles h.moves 4096 → m ≡ empty_table file
+  plain_emptied : sizes_taken file ≡ true → m ≡ plain_made h.aisle.shuttles h.aisle.moves 4096 → m ≡ empty_table file
   plain_emptied s em = emptied (λ x y. plain_check x y 4096) (plain_ok (shuttles_of file) (moves_of file) (within file s)) em
 
-  full_emptied : sizes_taken file ≡ true → m ≡ full_made h.shuttles h.moves 8192 → m ≡ empty_table file
+  full_emptied : sizes_taken file ≡ true → m ≡ full_made h.aisle.shuttles h.aisle.moves 8192 → m ≡ empty_table file
   full_emptied s em = emptied (λ x y. full_check x y 8192) (full_ok (shuttles_of file) (moves_of file) (within file s)) em
 
-pub plain_empty : (file : List ℕ) (room : ℕ) (h : Header) (m : Meaning) → Ok h ≡ header_taken file room → m ≡ plain_made h.shuttles h.moves 4096 → m ≡ empty_table file
+pub plain_empty : (file : List ℕ) (room : ℕ) (h : Header) (m : Meaning) → Ok h ≡ header_taken file room → m ≡ plain_made h.aisle.shuttles h.aisle.moves 4096 → m ≡ empty_table file
 plain_empty file room h m e em = plain_emptied file h (header_is file room h e) m (taken file room (header_passed file room h e)).sizes em
 
-pub full_empty : (file : List ℕ) (room : ℕ) (h : Header) (m : Meaning) → Ok h ≡ header_taken file room → m ≡ full_made h.shuttles h.moves 8192 → m ≡ empty_table file
+pub full_empty : (file : List ℕ) (room : ℕ) (h : Header) (m : Meaning) → Ok h ≡ header_taken file room → m ≡ full_made h.aisle.shuttles h.aisle.moves 8192 → m ≡ empty_table file
 full_empty file room h m e em = full_emptied file h (header_is file room h e) m (taken file room (header_passed file room h e)).sizes em
 
 -- a report over an empty table and store is the station's

@@ -51,7 +51,7 @@ file_check kind bs room = then (unless (nat_le kind 1) 12) (form_check bs room)
 
 -- what the header of a well-formed file says
 abbrev pub header_told : List ℕ → Header
-header_told bs = record { shuttles = shuttles_of bs; moves = moves_of bs; steps = count_of bs }
+header_told bs = record { aisle = record { shuttles = shuttles_of bs; moves = moves_of bs }; steps = count_of bs }
 
 -- what it says where the checks are passed
 abbrev pub header_taken : List ℕ → ℕ → Result Header Refusal

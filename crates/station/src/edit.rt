@@ -4,6 +4,7 @@ ghost use Rattle.station.specs.Edit.{number_at, well_formed, sizes_within, heade
 
 use runs::calls::Ask;
 use words::Refusal;
+use words::aisles::Aisle;
 
 // The 16-bit number at a byte's place, high byte first.
 fn number(file: &[u8], at: usize) -> u16
@@ -26,16 +27,15 @@ fn is_well_formed(file: &[u8]) -> bool
 // What the header of an edit file says.
 #[derive(Clone, Copy, PartialEq, Eq, Debug)]
 pub struct Header {
-    pub shuttles: u16,
-    pub moves: u16,
+    pub aisle: Aisle,
     pub steps: u16,
 }
 
 impl Header {
     fn has_sizes(self) -> bool
-        ensures { result ≡ sizes_within self.shuttles self.moves }
+        ensures { result ≡ sizes_within self.aisle.shuttles self.aisle.moves }
     {
-        (1..=4).contains(&self.shuttles) && (1..=256).contains(&self.moves)
+        (1..=4).contains(&self.aisle.shuttles) && (1..=256).contains(&self.aisle.moves)
     }
 }
 
@@ -48,8 +48,7 @@ pub fn read_header(file: &[u8]) -> Option<Header>
         return None;
     }
     Some(Header {
-        shuttles: number(file, 0),
-        moves: number(file, 2),
+        aisle: Aisle::new(number(file, 0), number(file, 2)),
         steps: number(file, 4),
     })
 }

@@ -85,10 +85,10 @@ impl<'a> Page<'a> {
     pub(crate) fn put_first_line(&mut self, header: Header)
         requires { self.old.end < 2 ^ 28 }
         ensures same_bytes { self.new.bytes.ghost_name ≡ self.old.bytes.ghost_name }
-        ensures written { Pours self.old.bytes.now self.old.end (first_line header.shuttles header.moves header.steps) self.new.bytes.now self.new.end }
+        ensures written { Pours self.old.bytes.now self.old.end (first_line header.aisle.shuttles header.aisle.moves header.steps) self.new.bytes.now self.new.end }
     {
-        self.put_number(header.shuttles as u32);
-        self.put_next(header.moves as u32);
+        self.put_number(header.aisle.shuttles as u32);
+        self.put_next(header.aisle.moves as u32);
         self.put_next(header.steps as u32);
         self.put_byte(b'\n');
     }

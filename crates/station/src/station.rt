@@ -90,7 +90,7 @@ fn plain_report(file: &[u8], report: &mut [u8]) -> Result<usize, Refusal>
 {
     let header = check_file(file, report.len())?;
     let mut cells = [0u16; PLAIN];
-    let table = Plain::make(header.shuttles, header.moves, &mut cells);
+    let table = Plain::make(header.aisle, &mut cells);
     Ok(report_over(table, header, file, report))
 }
 
@@ -101,7 +101,7 @@ fn full_report(file: &[u8], report: &mut [u8]) -> Result<usize, Refusal>
 {
     let header = check_file(file, report.len())?;
     let mut cells = [0u16; FULL];
-    let table = FullTree::make(header.shuttles, header.moves, &mut cells);
+    let table = FullTree::make(header.aisle, &mut cells);
     Ok(report_over(table, header, file, report))
 }
 
