@@ -200,6 +200,23 @@ reduce_push (x ∷ xs) v =
     ∙ smaller_assoc (decoded x) (reduce min (filter_map decoded xs)) (decoded v)
     ∙ ap (λ a. smaller a (decoded v)) (sym (reduce_more (decoded x) (filter_map decoded xs)))
 
+-- the smallest number stands for the smallest of what the numbers stand for
+
+decoded_min : (x y : ℕ) → x ≤ 65535 → y ≤ 65535 → decoded (min x y) ≡ smaller (decoded x) (decoded y)
+decoded_min x y a b = grind (arith, nat_tests)
+
+lowest_decoded : (a : ℕ) (xs : List ℕ) → a ≤ 65535 → ((i : ℕ) → i < length xs → get_or xs i 0 ≤ 65535) → decoded (fold min a xs) ≡ smaller (decoded a) (reduce min (filter_map decoded xs))
+lowest_decoded a [] fits small = sym (smaller_none (decoded a))
+lowest_decoded a (x ∷ xs) fits small =
+    let x_fits : x ≤ 65535 = small 0 (omega arith) in
+    lowest_decoded (min a x) xs (omega arith) (λ i l. small (suc i) (omega arith))
+    ∙ ap (λ o. smaller o (reduce min (filter_map decoded xs))) (decoded_min a x fits x_fits)
+    ∙ sym (smaller_assoc (decoded a) (decoded x) (reduce min (filter_map decoded xs)))
+    ∙ ap (smaller (decoded a)) (sym (reduce_more (decoded x) (filter_map decoded xs)))
+
+pub lowest_is : (xs : List ℕ) → ((i : ℕ) → i < length xs → get_or xs i 0 ≤ 65535) → decoded (fold min 65535 xs) ≡ reduce min (filter_map decoded xs)
+lowest_is xs small = lowest_decoded 65535 xs (omega arith) small
+
 least_front : (row : List ℕ) (i n : ℕ) → n ≤ length row → reduce min (filter_map decoded (drop i (take n row))) ≡ least_of (λ p. decoded (get_or row p 0)) i n
 least_front row i zero few = ap (λ l. reduce min (filter_map decoded l)) (drop_all i (take {A = ℕ} 0 row) (omega arith))
 least_front row i (suc n) few =
