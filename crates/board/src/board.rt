@@ -16,6 +16,7 @@ use stores::store::Store;
 use stores::wait::Wait;
 use tables::table::Table;
 use words::Refusal;
+use words::moves::Code;
 
 // A board over a table and a store. Its calls take any numbers, and say what they do for all waits that stand on it; `make` lets none stand.
 #[derive(Drop)]
@@ -70,7 +71,14 @@ impl<T: Table, S: Store> Board<T, S> {
         ensures refused { LeftAlone result self.old self.new }
     {
         self.judge(u, v)?;
-        put_earlier(&mut self.table, u / 4096, v / 4096, u % 4096, v % 4096)?;
+        let (from, to) = (Code(u), Code(v));
+        put_earlier(
+            &mut self.table,
+            from.shuttle(),
+            to.shuttle(),
+            from.place(),
+            to.place(),
+        )?;
         self.store.add(Wait {
             first: u,
             second: v,
@@ -88,8 +96,15 @@ impl<T: Table, S: Store> Board<T, S> {
             first: u,
             second: v,
         })?;
-        let left = self.store.earliest(u, v / 4096);
-        set_cell(&mut self.table, u / 4096, v / 4096, u % 4096, left);
+        let (from, to) = (Code(u), Code(v));
+        let left = self.store.earliest(u, to.shuttle());
+        set_cell(
+            &mut self.table,
+            from.shuttle(),
+            to.shuttle(),
+            from.place(),
+            left,
+        );
         Ok(())
     }
 

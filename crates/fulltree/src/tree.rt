@@ -43,6 +43,7 @@ fn way_down(row: &[u16], j: u16, q: usize) -> usize
     if row[right] <= j { right } else { 2 * q }
 }
 
+// That the row is a tree stands at each of the three that ask it: a struct's fact has one proof, and this one holds the number of halvings.
 // What the place i holds.
 pub(crate) fn held(row: &[u16], leaves: usize, i: u16) -> Option<u16>
     requires tree { Tree leaves row.now }

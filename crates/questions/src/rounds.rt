@@ -26,6 +26,7 @@ fn nearer(way: Way, a: Option<u16>, b: Option<u16>) -> Option<u16>
 }
 
 // Where waits lead to on the shuttle q from the place p of r, or come from; none where the table refuses.
+// The table and the way go with each function from here on: a struct of the two is no plainer, since each contract speaks of the table's meaning and of the way by themselves.
 fn look<T: Table>(table: &T, way: Way, r: u16, q: u16, p: u16) -> Option<u16>
     ensures { result ≡ look_of way (T.Table.meaning table.now) r q p }
 {
@@ -67,6 +68,7 @@ fn begin<T: Table>(table: &T, way: Way, k: u16, s: u16, i: u16) -> [Option<u16>;
     ensures places { Places (T.Table.meaning table.now).moves result }
 {
     let mut row: [Option<u16>; 16] = [None; 16];
+    // a shuttle's number is what is looked up, so a loop over the entries would count it all the same
     for r in 0..k {
         row[r as usize] = if r == s {
             Some(i)
@@ -94,6 +96,7 @@ fn settle<T: Table>(
     let mut rounds: u32 = 0;
     'rounds: loop {
         let old = row;
+        // the rule takes shuttles by their numbers, and relaxing one entry reads another
         for q in 0..k {
             if q != s {
                 for r in 0..k {

@@ -21,6 +21,7 @@ fn fill<T: Table>(table: &T, bounds: &[u16; 16], out: &mut [u16]) -> Result<usiz
         return Err(Refusal::TooShort);
     }
     let mut done = [0u16; 16];
+    // `iter_mut` over the front was tried: the proof speaks of the whole slice, of which that loop knows the front alone, and did not close
     for p in 0..total {
         // there is a next one wherever the waits have a running order; on any other table the place is left
         if let Some(t) = next(table, &done, bounds) {
@@ -60,6 +61,7 @@ fn bounds_of<T: Table>(table: &T, v: u16) -> [u16; 16]
     ensures { Reach (T.Table.meaning table.now) v result }
 {
     let mut bounds = [0u16; 16];
+    // a shuttle's number is what is asked for, so a loop over the bounds would count it all the same
     for t in 0..table.sizes().aisle.shuttles {
         bounds[t as usize] = bound(table, v, t);
     }

@@ -13,7 +13,7 @@ put_earlier-requires g c =
     let m : Meaning = g.T.Table.meaning c.args.self.now.table in
     let a = then_first (ahead m (g.S.Store.holding c.args.self.now.store) c.args.u c.args.v) _ tt c.in_ok-judge.ensures.2 in
     let w = wait_waiting m.shuttles m.moves c.args.u c.args.v (then_first (wait_check m.shuttles m.moves c.args.u c.args.v) _ tt a) in
-    record { cell = waiting_allowed m.shuttles m.moves c.args.u c.args.v w; value = omega (arith, w.to) }
+    record { cell = simp (c.shuttle.ensures, c.shuttle-2.ensures, c.place.ensures) (waiting_allowed m.shuttles m.moves c.args.u c.args.v w); value = simp c.place-2.ensures (omega (arith, w.to)) }
 
 pub returns : goal.returns
 returns g c =
@@ -23,6 +23,6 @@ returns g c =
     let p = c.in_ok-put_earlier.ensures in
     let a = add_passes m h c.args.u c.args.v j.0 j.1 j.2 in
     record {
-      does = placing_done m h c.args.u c.args.v j.0 j.1 j.2 _ p.answer p.after c.add.result c.add.ensures.answer _ c.add.ensures.after;
+      does = placing_done m h c.args.u c.args.v j.0 j.1 j.2 _ (simp (c.shuttle.ensures, c.shuttle-2.ensures, c.place.ensures) at p.answer) (simp (c.shuttle.ensures, c.shuttle-2.ensures, c.place.ensures, c.place-2.ensures) at p.after) c.add.result c.add.ensures.answer _ c.add.ensures.after;
       refused = left_alone_done c.add.result _ _ (a ∙ sym c.add.ensures.answer);
     }
