@@ -1,16 +1,14 @@
 // Boards as they are asked for: over a table and a store of any kinds, on the heap, for whoever uses one.
 #![tactic(auto)]
 
-ghost use Rattle.std.specs.Prelude.{◌≡◌, ◌*◌, ◌^◌, ◌<◌, IfOk, min, []};
+ghost use Rattle.std.specs.Prelude.{◌≡◌, IfOk, []};
 ghost use Rattle.words.specs.Refusals.{if_done};
 ghost use Rattle.tables.specs.Answers.{sizable};
-ghost use Rattle.fulltree.specs.Leaves.{leaves_of};
-ghost use Rattle.fulltree.specs.Full.{numbers_of};
 ghost use Rattle.board.specs.Standing.{Limits, Stands, limits};
 ghost use Rattle.boards.specs.Designs.{limits_of, limits_with};
 
 use board::board::Board;
-use fulltree::full::FullTree;
+use fulltree::full::{self, FullTree};
 use ordered::ordered::Ordered;
 use sparse::record::Record;
 use sparse::sparse::SparseTree;
@@ -19,7 +17,7 @@ use stores::loose::Loose;
 use stores::store::Store;
 use stores::wait::Wait;
 use tables::checks::check_sizes;
-use tables::plain::Plain;
+use tables::plain::{self, Plain};
 use tables::table::Table;
 use words::aisles::Aisle;
 use words::kinds::{StoreKind, TableKind};
@@ -52,40 +50,12 @@ pub trait Use: Drop {
         ensures { (b : Limits) → Stands b [] (T.Table.meaning board.table) (S.Store.holding board.store) → gives self b result };
 }
 
-// How many numbers a plain table takes.
-fn plain_numbers(aisle: Aisle) -> usize
-    ensures { result ≡ if_done (sizable aisle.shuttles aisle.moves) 0 (aisle.shuttles * aisle.shuttles * aisle.moves) }
+// How long a buffer is made: as long as the table needs it, or empty where no table has the aisle's sizes.
+fn room_for(aisle: Aisle, needed: usize) -> usize
+    ensures { result ≡ if_done (sizable aisle.shuttles aisle.moves) 0 needed }
 {
     match check_sizes(aisle) {
-        Ok(()) => aisle.shuttles as usize * aisle.shuttles as usize * aisle.moves as usize,
-        Err(_) => 0,
-    }
-}
-
-// How many leaves a tree for so many places has.
-fn leaves_for(moves: u16) -> usize
-    ensures is { result ≡ leaves_of moves }
-    ensures few { result < 2 ^ 18 }
-{
-    (moves as usize).next_power_of_two()
-}
-
-// How many numbers a full tree takes.
-fn full_numbers(aisle: Aisle) -> usize
-    ensures { result ≡ if_done (sizable aisle.shuttles aisle.moves) 0 (numbers_of aisle.shuttles aisle.moves) }
-{
-    match check_sizes(aisle) {
-        Ok(()) => aisle.shuttles as usize * aisle.shuttles as usize * (2 * leaves_for(aisle.moves)),
-        Err(_) => 0,
-    }
-}
-
-// How many records a sparse tree takes.
-fn sparse_records(design: Design) -> usize
-    ensures { result ≡ if_done (sizable design.aisle.shuttles design.aisle.moves) 0 (min design.cells 65535) }
-{
-    match check_sizes(design.aisle) {
-        Ok(()) => design.cells.min(MOST),
+        Ok(()) => needed,
         Err(_) => 0,
     }
 }
@@ -117,17 +87,29 @@ pub fn with_board<U: Use>(heap: Global, design: Design, user: U) -> Result<U::Ou
 {
     match design.table {
         TableKind::Plain => {
-            let mut numbers = Vec::from_elem(heap, 0, plain_numbers(design.aisle))?;
+            let mut numbers = Vec::from_elem(
+                heap,
+                0,
+                room_for(design.aisle, plain::numbers_of(design.aisle)),
+            )?;
             let table = Plain::make(design.aisle, numbers.as_mut_slice());
             on_table(heap, table, design, user)
         }
         TableKind::Full => {
-            let mut numbers = Vec::from_elem(heap, 0, full_numbers(design.aisle))?;
+            let mut numbers = Vec::from_elem(
+                heap,
+                0,
+                room_for(design.aisle, full::numbers_of(design.aisle)),
+            )?;
             let table = FullTree::make(design.aisle, numbers.as_mut_slice());
             on_table(heap, table, design, user)
         }
         TableKind::Sparse => {
-            let mut records = Vec::from_elem(heap, Record::Free(None), sparse_records(design))?;
+            let mut records = Vec::from_elem(
+                heap,
+                Record::Free(None),
+                room_for(design.aisle, design.cells.min(MOST)),
+            )?;
             let table = SparseTree::make(design.aisle, records.as_mut_slice());
             on_table(heap, table, design, user)
         }

@@ -26,7 +26,7 @@ fn leaves_for(moves: u16) -> usize
 }
 
 // How many numbers a table takes.
-fn numbers_of(aisle: Aisle) -> usize
+pub fn numbers_of(aisle: Aisle) -> usize
     ensures { result ≡ numbers_of aisle.shuttles aisle.moves }
 {
     let k = aisle.shuttles as usize;

@@ -31,6 +31,7 @@ fn free(records: &mut [Record], a: u16, next: Option<u16>)
     records[a as usize] = Record::Free(next);
 }
 
+// The records, a node's place in them and its range go with each walk: a struct of the four would have to hold as a fact that a tree stands there, which has no one proof.
 // The value at a place.
 pub(crate) fn find(records: &[Record], at: Option<u16>, lo: u16, hi: u16, place: u16) -> Option<u16>
     requires low { lo ≤ hi }

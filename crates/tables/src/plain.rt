@@ -14,7 +14,7 @@ use words::Refusal;
 use words::aisles::Aisle;
 
 // How many numbers a table takes.
-fn numbers_of(aisle: Aisle) -> usize
+pub fn numbers_of(aisle: Aisle) -> usize
     ensures { result ≡ aisle.shuttles * aisle.shuttles * aisle.moves }
 {
     aisle.shuttles as usize * aisle.shuttles as usize * aisle.moves as usize
