@@ -107,10 +107,8 @@ impl Side {
             }
             _ => return,
         }
-        // `copy_from_slice` would need that both are as long, which a ghost field could keep, but then neither could be lent
-        for (board, graph) in self.boards.iter_mut().zip(self.graphs.iter()) {
-            *board = *graph;
-        }
+        let length = self.boards.len().min(self.graphs.len());
+        self.boards.as_mut_slice()[..length].copy_from_slice(&self.graphs.as_slice()[..length]);
     }
 
     // What is wrong with the outcomes of a call, or with the slices then.

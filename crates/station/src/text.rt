@@ -31,7 +31,7 @@ impl<'a> Page<'a> {
         self.end += 1;
     }
 
-    // Writes a number in decimal digits. A recursion, since there is no heap for a text.
+    // Writes a number in decimal digits. Through `fmt::Write` the page would need ghost members that say again what `Pours` says, and this is shorter.
     pub(crate) fn put_number(&mut self, n: u32)
         requires { self.old.end < 2 ^ 32 }
         ensures same_bytes { self.new.bytes.ghost_name ≡ self.old.bytes.ghost_name }

@@ -87,6 +87,7 @@ impl<'a> Store for Loose<'a> {
     }
 
     fn earliest(&self, first: u16, t: u16) -> Option<u16> {
+        // no move has such a shuttle: said here, the search needs no word on how high codes are
         if t > 15 {
             return None;
         }
