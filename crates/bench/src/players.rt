@@ -86,8 +86,7 @@ impl<'a> Game<'a> {
     }
 
     fn on_graph(&self) -> anyhow::Result<Score> {
-        let aisle = self.size.aisle;
-        let limits = Limits::whole(aisle.shuttles, aisle.moves, WAITS);
+        let limits = Limits::whole(self.size.aisle, WAITS);
         let mut graph = Graph::make(self.rt.alloc(), limits)?;
         self.play(&mut graph)
     }

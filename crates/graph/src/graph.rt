@@ -5,26 +5,28 @@ use crate::links::Links;
 use crate::search::{Marks, Search, Way};
 use runs::calls::{Answer, Ask, Outcome};
 use std::alloc::{AllocError, Global};
+use stores::wait::Wait;
 use words::Refusal;
+use words::aisles::Aisle;
+use words::moves::Code;
 
-// How large a board is: its shuttles, the moves of each, the waits that its store holds at most, and the cells that its table fills at most.
+// How large a board is: its aisle, the waits that its store holds at most, and the cells that its table fills at most.
 #[derive(Clone, Copy, PartialEq, Eq, Debug)]
 pub struct Limits {
-    pub shuttles: u16,
-    pub moves: u16,
+    pub aisle: Aisle,
     pub waits: u16,
     pub cells: u32,
 }
 
 impl Limits {
     // Those of a board whose table can fill every cell.
-    pub fn whole(shuttles: u16, moves: u16, waits: u16) -> Limits {
-        let pairs = (shuttles as u32).wrapping_mul((shuttles as u32).saturating_sub(1));
+    pub fn whole(aisle: Aisle, waits: u16) -> Limits {
+        let shuttles = aisle.shuttles as u32;
+        let pairs = shuttles.wrapping_mul(shuttles.saturating_sub(1));
         Limits {
-            shuttles,
-            moves,
+            aisle,
             waits,
-            cells: pairs.wrapping_mul(moves as u32),
+            cells: pairs.wrapping_mul(aisle.moves as u32),
         }
     }
 }
@@ -53,7 +55,7 @@ pub fn code(shuttle: u16, place: u16) -> u16 {
 fn codes_of(limits: Limits) -> usize
     ensures { result < 2 ^ 32 }
 {
-    limits.shuttles as usize * 4096
+    limits.aisle.shuttles as usize * 4096
 }
 
 impl Graph {
@@ -76,19 +78,19 @@ impl Graph {
     }
 
     fn check_move(&self, u: u16) -> Result<(), Refusal> {
-        if u / 4096 >= self.limits.shuttles {
+        if Code(u).shuttle() >= self.limits.aisle.shuttles {
             Err(Refusal::NoSuchShuttle)
-        } else if u % 4096 >= self.limits.moves {
+        } else if Code(u).place() >= self.limits.aisle.moves {
             Err(Refusal::NoSuchPlace)
         } else {
             Ok(())
         }
     }
 
-    fn check_wait(&self, u: u16, v: u16) -> Result<(), Refusal> {
-        self.check_move(u)?;
-        self.check_move(v)?;
-        if u / 4096 != v / 4096 {
+    fn check_wait(&self, wait: Wait) -> Result<(), Refusal> {
+        self.check_move(wait.first)?;
+        self.check_move(wait.second)?;
+        if Code(wait.first).shuttle() != Code(wait.second).shuttle() {
             return Ok(());
         }
         Err(Refusal::SameShuttle)
@@ -96,7 +98,7 @@ impl Graph {
 
     // Marks what is reached from the move; the search may stop once it has met the goal.
     fn mark_from(&mut self, way: Way, m: u16, goal: Option<u16>) {
-        let moves = self.limits.moves;
+        let moves = self.limits.aisle.moves;
         match way {
             Way::Forward => self.search.spread(&self.leaving, way, moves, m, goal),
             Way::Backward => self.search.spread(&self.entering, way, moves, m, goal),
@@ -110,42 +112,53 @@ impl Graph {
     }
 
     // Hangs the wait into its two lists.
-    fn hang(&mut self, link: u16, u: u16, v: u16) {
+    fn hang(&mut self, link: u16, wait: Wait) {
         self.leaving.unhang(codes_of(self.limits), link);
-        self.leaving.hang(u as usize, link, v);
-        self.entering.hang(v as usize, link, u);
+        self.leaving.hang(wait.first as usize, link, wait.second);
+        self.entering.hang(wait.second as usize, link, wait.first);
     }
 
-    fn place(&mut self, u: u16, v: u16) -> Outcome {
-        self.check_wait(u, v)?;
-        if self.leaving.find(u as usize, v).is_some() {
+    // The link of this wait, if it is held.
+    fn held(&self, wait: Wait) -> Option<u16> {
+        self.leaving.find(wait.first as usize, wait.second)
+    }
+
+    // Whether a wait leads from this one's first move to the shuttle of its second.
+    fn shares_cell(&self, wait: Wait) -> bool {
+        let shuttle = Code(wait.second).shuttle();
+        self.leaving.leads_to(wait.first as usize, shuttle)
+    }
+
+    fn place(&mut self, wait: Wait) -> Outcome {
+        self.check_wait(wait)?;
+        if self.held(wait).is_some() {
             return Err(Refusal::AlreadyHeld);
         }
-        if self.leads(v, u) {
+        if self.leads(wait.second, wait.first) {
             return Err(Refusal::Circle);
         }
         let Some(link) = self.leaving.first(codes_of(self.limits)) else {
             return Err(Refusal::StoreFull);
         };
-        if !self.leaving.leads_to(u as usize, v / 4096) {
+        if !self.shares_cell(wait) {
             if self.filled >= self.limits.cells {
                 return Err(Refusal::TableFull);
             }
             self.filled += 1;
         }
-        self.hang(link, u, v);
+        self.hang(link, wait);
         Ok(Answer::Done)
     }
 
-    fn remove(&mut self, u: u16, v: u16) -> Outcome {
-        self.check_wait(u, v)?;
-        let Some(link) = self.leaving.find(u as usize, v) else {
+    fn remove(&mut self, wait: Wait) -> Outcome {
+        self.check_wait(wait)?;
+        let Some(link) = self.held(wait) else {
             return Err(Refusal::NotHeld);
         };
-        self.leaving.unhang(u as usize, link);
-        self.entering.unhang(v as usize, link);
+        self.leaving.unhang(wait.first as usize, link);
+        self.entering.unhang(wait.second as usize, link);
         self.leaving.hang(codes_of(self.limits), link, 0);
-        if !self.leaving.leads_to(u as usize, v / 4096) {
+        if !self.shares_cell(wait) {
             self.filled = self.filled.saturating_sub(1);
         }
         Ok(Answer::Done)
@@ -159,7 +172,7 @@ impl Graph {
 
     // The marked move of the shuttle that the search met first.
     fn nearest_marked(&self, way: Way, t: u16) -> Option<u16> {
-        let mut marked = (0..self.limits.moves)
+        let mut marked = (0..self.limits.aisle.moves)
             .map(|place| code(t, place))
             .filter(|m| self.search.seen.has(*m));
         match way {
@@ -171,10 +184,10 @@ impl Graph {
     // The nearest move of t that has to follow u, or that has to come before it.
     fn nearest(&mut self, way: Way, u: u16, t: u16) -> Outcome {
         self.check_move(u)?;
-        if t >= self.limits.shuttles {
+        if t >= self.limits.aisle.shuttles {
             return Err(Refusal::NoSuchShuttle);
         }
-        if u / 4096 == t {
+        if Code(u).shuttle() == t {
             return Ok(Answer::Found(Some(u), 0));
         }
         self.mark_from(way, u, None);
@@ -183,7 +196,7 @@ impl Graph {
 
     // Whether the move before m on its shuttle, and each move that m waits for, is listed.
     fn ready(&self, m: u16) -> bool {
-        (m % 4096 == 0 || self.listed.has(m - 1))
+        (Code(m).place() == 0 || self.listed.has(m - 1))
             && self
                 .entering
                 .of(m as usize)
@@ -192,9 +205,9 @@ impl Graph {
 
     // The move to list next, of those that are seen: that of the lowest shuttle whose next one is ready.
     fn next_listed(&self, places: &[u16; 16]) -> Option<u16> {
-        (0..self.limits.shuttles)
+        (0..self.limits.aisle.shuttles)
             .zip(places.iter())
-            .filter(|(_, place)| **place < self.limits.moves)
+            .filter(|(_, place)| **place < self.limits.aisle.moves)
             .map(|(s, place)| code(s, *place))
             .find(|m| self.search.seen.has(*m) && self.ready(*m))
     }
@@ -207,7 +220,7 @@ impl Graph {
             let Some(m) = self.next_listed(places) else {
                 return at;
             };
-            let s = (m / 4096) as usize;
+            let s = Code(m).shuttle() as usize;
             places[s] = places[s].saturating_add(1);
             self.listed.add(m);
             *entry = m;
@@ -217,7 +230,7 @@ impl Graph {
 
     // How many moves there are.
     fn total(&self) -> usize {
-        self.limits.shuttles as usize * self.limits.moves as usize
+        self.limits.aisle.shuttles as usize * self.limits.aisle.moves as usize
     }
 
     fn check_room(&self, slice: &[u16]) -> Result<(), Refusal> {
@@ -263,8 +276,8 @@ impl Graph {
     // Answers a call of a board. It knows no rounds: its questions have 0.
     pub fn answer(&mut self, ask: Ask, slice: &mut [u16]) -> Outcome {
         match ask {
-            Ask::Place(u, v) => self.place(u, v),
-            Ask::Remove(u, v) => self.remove(u, v),
+            Ask::Place(first, second) => self.place(Wait { first, second }),
+            Ask::Remove(first, second) => self.remove(Wait { first, second }),
             Ask::Before(u, v) => self.before(u, v),
             Ask::FirstAfter(u, t) => self.nearest(Way::Forward, u, t),
             Ask::LastBefore(u, t) => self.nearest(Way::Backward, u, t),

@@ -3,6 +3,7 @@ use graph::graph::{Limits, code};
 use graph::random::Random;
 use runs::calls::Ask;
 use stores::wait::Wait;
+use words::moves::Code;
 
 // How many waits are remembered, to be removed.
 const MEMORY: usize = 64;
@@ -18,8 +19,8 @@ pub struct Plan {
 impl Plan {
     pub fn make(limits: Limits, seed: u64) -> Plan {
         let first = Wait {
-            first: 0,
-            second: 4096,
+            first: code(0, 0),
+            second: code(1, 0),
         };
         Plan {
             random: Random::from(seed),
@@ -30,16 +31,16 @@ impl Plan {
 
     // A move of the board.
     fn right_move(&mut self) -> u16 {
-        let shuttle = self.random.below(self.limits.shuttles);
-        code(shuttle, self.random.below(self.limits.moves))
+        let shuttle = self.random.below(self.limits.aisle.shuttles);
+        code(shuttle, self.random.below(self.limits.aisle.moves))
     }
 
     // A move of the board, or now and then a code just off it, or any code.
     fn any_move(&mut self) -> u16 {
         match self.random.below(32) {
             0 => self.random.below(65535),
-            1 => code(self.limits.shuttles, 0),
-            2 => code(0, self.limits.moves),
+            1 => code(self.limits.aisle.shuttles, 0),
+            2 => code(0, self.limits.aisle.moves),
             _ => self.right_move(),
         }
     }
@@ -48,16 +49,16 @@ impl Plan {
     fn any_shuttle(&mut self) -> u16 {
         match self.random.below(24) {
             0 => self.random.below(65535),
-            1 => self.limits.shuttles,
-            _ => self.random.below(self.limits.shuttles),
+            1 => self.limits.aisle.shuttles,
+            _ => self.random.below(self.limits.aisle.shuttles),
         }
     }
 
     // A move not far behind u, on another shuttle, if there is one.
     fn near(&mut self, u: u16) -> u16 {
-        let others = self.limits.shuttles.saturating_sub(1);
-        let shuttle = (u / 4096 + self.random.below(others) % 16 + 1) % self.limits.shuttles.max(1);
-        let place = (u % 4096 + self.random.below(4)) % self.limits.moves.max(1);
+        let others = self.limits.aisle.shuttles.saturating_sub(1);
+        let shuttle = (Code(u).shuttle() + self.random.below(others) % 16 + 1) % self.limits.aisle.shuttles.max(1);
+        let place = (Code(u).place() + self.random.below(4)) % self.limits.aisle.moves.max(1);
         code(shuttle, place)
     }
 
@@ -73,12 +74,9 @@ impl Plan {
     }
 
     // Remembers a wait that was placed, in place of another.
-    pub fn remember(&mut self, u: u16, v: u16) {
+    pub fn remember(&mut self, wait: Wait) {
         let at = self.random.below(64) as usize % MEMORY;
-        self.placed[at] = Wait {
-            first: u,
-            second: v,
-        };
+        self.placed[at] = wait;
     }
 
     // A removal, mostly of a wait that is remembered.

@@ -6,6 +6,7 @@ use graph::player::Player;
 use runs::calls::{Answer, Ask, Outcome};
 use std::alloc::{AllocError, Global};
 use std::fmt;
+use stores::wait::Wait;
 
 // What differed: the outcomes, a place of the slices and the codes there, or the rounds, which should have been these or, without a number, fewer than the shuttles.
 #[derive(Clone, Copy)]
@@ -78,7 +79,7 @@ fn front(slice: &mut [u16], length: usize) -> &mut [u16] {
 
 // How many moves there are.
 fn moves_of(limits: Limits) -> usize {
-    limits.shuttles as usize * limits.moves as usize
+    limits.aisle.shuttles as usize * limits.aisle.moves as usize
 }
 
 impl Side {
@@ -116,7 +117,7 @@ impl Side {
         if without_rounds(board) != graph {
             return Some(What::Outcomes);
         }
-        if rounds_of(board).is_some_and(|rounds| rounds >= self.limits.shuttles as u32) {
+        if rounds_of(board).is_some_and(|rounds| rounds >= self.limits.aisle.shuttles as u32) {
             return Some(What::Rounds(None));
         }
         differing(self.boards.as_slice(), self.graphs.as_slice())
@@ -132,8 +133,8 @@ impl Side {
         let graph = self
             .graph
             .answer(ask, front(self.graphs.as_mut_slice(), length));
-        if let (Ask::Place(u, v), Ok(Answer::Done)) = (ask, graph) {
-            self.plan.remember(u, v);
+        if let (Ask::Place(first, second), Ok(Answer::Done)) = (ask, graph) {
+            self.plan.remember(Wait { first, second });
         }
         match self.compare(board, graph) {
             None => Ok(Turn {
