@@ -52,7 +52,7 @@ pub(crate) struct Search {
 // The moves that a search has reached so far: they are marked, and the first `tail` of the queue. It borrows both, since the search took a sixth longer with its count behind a reference.
 #[derive(Drop)]
 struct Wave<'a> {
-    seen: &'a mut [bool],
+    seen: &'a mut Marks,
     queue: &'a mut [u16],
     tail: usize,
 }
@@ -61,10 +61,8 @@ impl<'a> Wave<'a> {
     // Marks the move and queues it, unless it was seen.
     fn reach(&mut self, m: u16) {
         if let Some(place) = self.queue.get_mut(self.tail)
-            && let Some(seen) = self.seen.get_mut(m as usize)
-            && !*seen
+            && self.seen.add(m)
         {
-            *seen = true;
             *place = m;
             self.tail = self.tail.saturating_add(1);
         }
@@ -77,10 +75,6 @@ impl<'a> Wave<'a> {
         } else {
             None
         }
-    }
-
-    fn has(&self, m: u16) -> bool {
-        self.seen.get(m as usize).is_some_and(|seen| *seen)
     }
 }
 
@@ -111,7 +105,7 @@ impl Search {
     ) {
         self.seen.fill(false);
         let mut wave = Wave {
-            seen: self.seen.marks.as_mut_slice(),
+            seen: &mut self.seen,
             queue: self.queue.as_mut_slice(),
             tail: 0,
         };
@@ -121,7 +115,7 @@ impl Search {
             let Some(m) = wave.at(place) else {
                 return;
             };
-            if goal.is_some_and(|g| wave.has(g)) {
+            if goal.is_some_and(|g| wave.seen.has(g)) {
                 return;
             }
             if let Some(b) = beside(way, moves, m) {
