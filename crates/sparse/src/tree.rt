@@ -121,7 +121,7 @@ fn stands_above(a: Entry, b: Entry) -> bool
     requires { a.place ≢ b.place }
     ensures { (result ≡ true → Above a b) × (result ≡ false → Above b a) }
 {
-    a.value < b.value || a.value == b.value && b.place < a.place
+    (a.value, b.place) < (b.value, a.place)
 }
 
 fn rank(a: Entry, b: Entry) -> Ranked
