@@ -2,6 +2,7 @@
 ghost use Rattle.std.specs.Iterator.{at_most};
 
 use std::alloc::{AllocError, Global};
+use words::moves::Code;
 
 // The link behind this one in its list, and the move that it leads to.
 #[derive(Clone, Copy)]
@@ -105,6 +106,7 @@ impl Links {
 
     // Whether a link of the head's list leads to the shuttle.
     pub(crate) fn leads_to(&self, head: usize, shuttle: u16) -> bool {
-        self.of(head).any(|(_, link)| link.end / 4096 == shuttle)
+        self.of(head)
+            .any(|(_, link)| Code(link.end).shuttle() == shuttle)
     }
 }
