@@ -117,6 +117,7 @@ fn report_by(kind: TableKind, file: &[u8], report: &mut [u8]) -> Result<usize, R
 }
 
 // Reports on an edit file: the report's length, or why it is refused, which leaves every byte of the buffer as it was.
+// It takes the kind's number and not a `TableKind`, which would ask more of its callers: a number that is no kind is refused here.
 #[tactic(auto, using(crate::proofs::Taken::kind_known, crate::proofs::Taken::reports_by, crate::proofs::Taken::report_fits, crate::proofs::Alike::kinds_alike))]
 pub fn report(kind: u32, file: &[u8], report: &mut [u8]) -> Result<usize, Refusal>
     ensures answers { Reports kind file.now report.old report.new result }
