@@ -57,7 +57,8 @@ impl Plan {
     // A move not far behind u, on another shuttle, if there is one.
     fn near(&mut self, u: u16) -> u16 {
         let others = self.limits.aisle.shuttles.saturating_sub(1);
-        let shuttle = (Code(u).shuttle() + self.random.below(others) % 16 + 1) % self.limits.aisle.shuttles.max(1);
+        let shuttle = (Code(u).shuttle() + self.random.below(others) % 16 + 1)
+            % self.limits.aisle.shuttles.max(1);
         let place = (Code(u).place() + self.random.below(4)) % self.limits.aisle.moves.max(1);
         code(shuttle, place)
     }
