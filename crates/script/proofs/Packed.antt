@@ -5,7 +5,7 @@ use Rattle.std.specs.Int.{w16, to_be_bytes}
 use Rattle.std.specs.List.{flat_map}
 use Rattle.station.specs.Edit.{well_formed}
 
-header_forms : (a b c d high low steps : ℕ) (bs : List ℕ) → high * 256 + low ≡ steps → length bs ≡ 6 * steps → steps ≤ 2729 → well_formed (a ∷ b ∷ c ∷ d ∷ high ∷ low ∷ 0 ∷ 8 ∷ bs) ≡ true
+pub header_forms : (a b c d high low steps : ℕ) (bs : List ℕ) → high * 256 + low ≡ steps → length bs ≡ 6 * steps → steps ≤ 2729 → well_formed (a ∷ b ∷ c ∷ d ∷ high ∷ low ∷ 0 ∷ 8 ∷ bs) ≡ true
 unfolding well_formed
 header_forms a b c d high low steps bs h l few = grind (arith, nat_tests)
 

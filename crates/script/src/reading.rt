@@ -69,15 +69,6 @@ fn read_cell(words: &[&[u8]]) -> Result<Task, Wrong> {
     Ok(Task::Cell(read_number(from)?, read_number(to)?, read_number(place)?))
 }
 
-// The moves of a test, however many.
-fn read_test(heap: Global, words: &[&[u8]]) -> Result<Task, Wrong> {
-    let mut moves = Vec::new(heap);
-    for word in words {
-        moves.push(read_move(word)?)?;
-    }
-    Ok(Task::Test(moves))
-}
-
 fn read_one_move(words: &[&[u8]]) -> Result<Move, Wrong> {
     let [u] = words else {
         return Err(miscounted(words, 1));
@@ -128,22 +119,45 @@ fn read_request(name: &[u8], words: &[&[u8]]) -> Result<Request, Wrong> {
     }
 }
 
-fn read_command(heap: Global, name: &[u8], words: &[&[u8]]) -> Result<Command, Wrong> {
+// A command but a test.
+fn read_command(name: &[u8], words: &[&[u8]]) -> Result<Command, Wrong> {
     match name {
         b"board" => Ok(Command::Board(read_setup(words)?)),
         b"cell" => Ok(Command::Task(read_cell(words)?)),
-        b"test" => Ok(Command::Task(read_test(heap, words)?)),
         _ => Ok(Command::Task(Task::Call(read_request(name, words)?))),
     }
 }
 
 // The command of a line; none where it is blank or a remark.
+// The words are taken one by one, and none is kept but as a move of a test, of which there can be any number: a long line needs no more room than it has to.
 pub fn read_line(heap: Global, line: &[u8]) -> Result<Option<Command>, Wrong> {
-    let words = line.split(|b| is_blank(*b)).filter(|word| !word.is_empty());
-    let words: Vec<&[u8]> = words.collect(heap)?;
-    match words.as_slice() {
-        [] => Ok(None),
-        [name, ..] if name.starts_with(b"#") => Ok(None),
-        [name, rest @ ..] => Ok(Some(read_command(heap, name, rest)?)),
+    // a line without words is left after one look at each byte, as it is not cut into words
+    let Some(start) = line.iter().position(|b| !is_blank(*b)) else {
+        return Ok(None);
+    };
+    let mut words = line[start..]
+        .split(|b| is_blank(*b))
+        .filter(|word| !word.is_empty());
+    match words.next() {
+        None | Some([b'#', ..]) => Ok(None),
+        Some(b"test") => {
+            let mut moves = Vec::new(heap);
+            for word in words {
+                moves.push(read_move(word)?)?;
+            }
+            Ok(Some(Command::Task(Task::Test(moves))))
+        }
+        Some(name) => {
+            // no other command has more than four words behind its name, and a fifth is one too many
+            let few: [&[u8]; 5] = [
+                words.next().unwrap_or(b""),
+                words.next().unwrap_or(b""),
+                words.next().unwrap_or(b""),
+                words.next().unwrap_or(b""),
+                words.next().unwrap_or(b""),
+            ];
+            let count = few.iter().position(|word| word.is_empty());
+            Ok(Some(read_command(name, &few[..count.unwrap_or(5)])?))
+        }
     }
 }
