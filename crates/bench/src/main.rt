@@ -53,7 +53,7 @@ fn print_times(game: Game<'_>, who: Who, score: &Score) -> io::Result<()> {
     let (k, n) = (aisle.shuttles, aisle.moves);
     eprint!(rt; "{who} {k} {n} {steps}:")?;
     for call in TIMED {
-        let nanos = score.mean(call);
+        let nanos = score.mean(call as usize);
         eprint!(rt; " {call} {nanos}")?;
     }
     eprintln!(rt; "")

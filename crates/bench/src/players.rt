@@ -12,6 +12,7 @@ use std::time::Instant;
 use stores::store::Store;
 use tables::table::Table;
 use words::Refusal;
+use words::aisles::Aisle;
 use words::kinds::{StoreKind, TableKind};
 
 // Who plays: a board over one of the tables and an ordered list, or the graph search.
@@ -86,7 +87,8 @@ impl<'a> Game<'a> {
     }
 
     fn on_graph(&self) -> anyhow::Result<Score> {
-        let limits = Limits::whole(self.size.aisle, WAITS);
+        let Aisle { shuttles, moves } = self.size.aisle;
+        let limits = Limits::whole(shuttles, moves, WAITS);
         let mut graph = Graph::make(self.rt.alloc(), limits)?;
         self.play(&mut graph)
     }

@@ -53,10 +53,9 @@ impl Score {
         *spent = spent.saturating_add(nanos);
     }
 
-    // The mean time of a call of this kind, in nanoseconds.
-    pub fn mean(&self, kind: Kind) -> u64 {
-        self.nanos[kind as usize]
-            .checked_div(self.tally.calls_of(kind))
-            .unwrap_or(0)
+    // The mean time of a call of the kind with this number, in nanoseconds: 0 where there is no such kind.
+    pub fn mean(&self, kind: usize) -> u64 {
+        let spent = self.nanos.get(kind).copied().unwrap_or(0);
+        spent.checked_div(self.tally.calls_of(kind)).unwrap_or(0)
     }
 }

@@ -1,34 +1,41 @@
 // An aisle as a graph: its moves, its waits as links between them, and the calls of a board answered by searching.
 ghost use Rattle.std.specs.Prelude.{◌^◌, ◌<◌, ◌≤◌, length};
 
+use crate::codes::{place_of, shuttle_of};
 use crate::links::Links;
 use crate::search::{Marks, Search, Way};
 use runs::calls::{Answer, Ask, Outcome};
 use std::alloc::{AllocError, Global};
-use stores::wait::Wait;
 use words::Refusal;
-use words::aisles::Aisle;
-use words::moves::Code;
 
-// How large a board is: its aisle, the waits that its store holds at most, and the cells that its table fills at most.
+// How large a board is: its shuttles, the moves of each, the waits that its store holds at most, and the cells that its table fills at most.
+// These are numbers, and a wait below has a type of its own: the search shares with the product the words for calls and answers, and nothing else.
 #[derive(Clone, Copy, PartialEq, Eq, Debug)]
 pub struct Limits {
-    pub aisle: Aisle,
+    pub shuttles: u16,
+    pub moves: u16,
     pub waits: u16,
     pub cells: u32,
 }
 
 impl Limits {
     // Those of a board whose table can fill every cell.
-    pub fn whole(aisle: Aisle, waits: u16) -> Limits {
-        let shuttles = aisle.shuttles as u32;
-        let pairs = shuttles.wrapping_mul(shuttles.saturating_sub(1));
+    pub fn whole(shuttles: u16, moves: u16, waits: u16) -> Limits {
+        let pairs = (shuttles as u32).wrapping_mul((shuttles as u32).saturating_sub(1));
         Limits {
-            aisle,
+            shuttles,
+            moves,
             waits,
-            cells: pairs.wrapping_mul(aisle.moves as u32),
+            cells: pairs.wrapping_mul(moves as u32),
         }
     }
+}
+
+// A wait, by its two moves.
+#[derive(Clone, Copy)]
+struct Wait {
+    first: u16,
+    second: u16,
 }
 
 // Moves go by their codes. The waits hang in two lists each, so that a search can go both ways.
@@ -55,7 +62,7 @@ pub fn code(shuttle: u16, place: u16) -> u16 {
 fn codes_of(limits: Limits) -> usize
     ensures { result < 2 ^ 32 }
 {
-    limits.aisle.shuttles as usize * 4096
+    limits.shuttles as usize * 4096
 }
 
 impl Graph {
@@ -78,9 +85,9 @@ impl Graph {
     }
 
     fn check_move(&self, u: u16) -> Result<(), Refusal> {
-        if Code(u).shuttle() >= self.limits.aisle.shuttles {
+        if shuttle_of(u) >= self.limits.shuttles {
             Err(Refusal::NoSuchShuttle)
-        } else if Code(u).place() >= self.limits.aisle.moves {
+        } else if place_of(u) >= self.limits.moves {
             Err(Refusal::NoSuchPlace)
         } else {
             Ok(())
@@ -90,7 +97,7 @@ impl Graph {
     fn check_wait(&self, wait: Wait) -> Result<(), Refusal> {
         self.check_move(wait.first)?;
         self.check_move(wait.second)?;
-        if Code(wait.first).shuttle() != Code(wait.second).shuttle() {
+        if shuttle_of(wait.first) != shuttle_of(wait.second) {
             return Ok(());
         }
         Err(Refusal::SameShuttle)
@@ -98,7 +105,7 @@ impl Graph {
 
     // Marks what is reached from the move; the search may stop once it has met the goal.
     fn mark_from(&mut self, way: Way, m: u16, goal: Option<u16>) {
-        let moves = self.limits.aisle.moves;
+        let moves = self.limits.moves;
         match way {
             Way::Forward => self.search.spread(&self.leaving, way, moves, m, goal),
             Way::Backward => self.search.spread(&self.entering, way, moves, m, goal),
@@ -125,7 +132,7 @@ impl Graph {
 
     // Whether a wait leads from this one's first move to the shuttle of its second.
     fn shares_cell(&self, wait: Wait) -> bool {
-        let shuttle = Code(wait.second).shuttle();
+        let shuttle = shuttle_of(wait.second);
         self.leaving.leads_to(wait.first as usize, shuttle)
     }
 
@@ -172,7 +179,7 @@ impl Graph {
 
     // The marked move of the shuttle that the search met first.
     fn nearest_marked(&self, way: Way, t: u16) -> Option<u16> {
-        let mut marked = (0..self.limits.aisle.moves)
+        let mut marked = (0..self.limits.moves)
             .map(|place| code(t, place))
             .filter(|m| self.search.seen.has(*m));
         match way {
@@ -184,10 +191,10 @@ impl Graph {
     // The nearest move of t that has to follow u, or that has to come before it.
     fn nearest(&mut self, way: Way, u: u16, t: u16) -> Outcome {
         self.check_move(u)?;
-        if t >= self.limits.aisle.shuttles {
+        if t >= self.limits.shuttles {
             return Err(Refusal::NoSuchShuttle);
         }
-        if Code(u).shuttle() == t {
+        if shuttle_of(u) == t {
             return Ok(Answer::Found(Some(u), 0));
         }
         self.mark_from(way, u, None);
@@ -196,7 +203,7 @@ impl Graph {
 
     // Whether the move before m on its shuttle, and each move that m waits for, is listed.
     fn ready(&self, m: u16) -> bool {
-        (Code(m).place() == 0 || self.listed.has(m - 1))
+        (place_of(m) == 0 || self.listed.has(m - 1))
             && self
                 .entering
                 .of(m as usize)
@@ -205,9 +212,9 @@ impl Graph {
 
     // The move to list next, of those that are seen: that of the lowest shuttle whose next one is ready.
     fn next_listed(&self, places: &[u16; 16]) -> Option<u16> {
-        (0..self.limits.aisle.shuttles)
+        (0..self.limits.shuttles)
             .zip(places.iter())
-            .filter(|(_, place)| **place < self.limits.aisle.moves)
+            .filter(|(_, place)| **place < self.limits.moves)
             .map(|(s, place)| code(s, *place))
             .find(|m| self.search.seen.has(*m) && self.ready(*m))
     }
@@ -220,7 +227,7 @@ impl Graph {
             let Some(m) = self.next_listed(places) else {
                 return at;
             };
-            let s = Code(m).shuttle() as usize;
+            let s = shuttle_of(m) as usize;
             places[s] = places[s].saturating_add(1);
             self.listed.add(m);
             *entry = m;
@@ -230,7 +237,7 @@ impl Graph {
 
     // How many moves there are.
     fn total(&self) -> usize {
-        self.limits.aisle.shuttles as usize * self.limits.aisle.moves as usize
+        self.limits.shuttles as usize * self.limits.moves as usize
     }
 
     fn check_room(&self, slice: &[u16]) -> Result<(), Refusal> {

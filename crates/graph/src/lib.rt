@@ -2,6 +2,7 @@
 // The search is an instrument of tests. It is proved safe and ending, and no more: that it answers right is only tested, by comparing it with boards.
 #![tactic(auto)]
 
+mod codes;
 pub mod graph;
 mod links;
 pub mod player;

@@ -1,8 +1,8 @@
 // Lists of links: each head has one, and a link hangs in at most one list. Numbers that are not there are read as none, and written nowhere.
 ghost use Rattle.std.specs.Iterator.{at_most};
 
+use crate::codes::shuttle_of;
 use std::alloc::{AllocError, Global};
-use words::moves::Code;
 
 // The link behind this one in its list, and the move that it leads to.
 #[derive(Clone, Copy)]
@@ -107,6 +107,6 @@ impl Links {
     // Whether a link of the head's list leads to the shuttle.
     pub(crate) fn leads_to(&self, head: usize, shuttle: u16) -> bool {
         self.of(head)
-            .any(|(_, link)| Code(link.end).shuttle() == shuttle)
+            .any(|(_, link)| shuttle_of(link.end) == shuttle)
     }
 }

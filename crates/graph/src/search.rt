@@ -1,8 +1,8 @@
 // A breadth-first search over the moves: along each shuttle, and along the waits.
+use crate::codes::place_of;
 use crate::links::Links;
 use std::alloc::{AllocError, Global};
 use std::mem;
-use words::moves::Code;
 
 // Which way to go: to the moves that have to follow, or to those that have to come before.
 #[derive(Clone, Copy, PartialEq, Eq)]
@@ -81,8 +81,8 @@ impl<'a> Wave<'a> {
 // The neighbour of the move on its own shuttle.
 fn beside(way: Way, moves: u16, m: u16) -> Option<u16> {
     match way {
-        Way::Forward => (Code(m).place() + 1 < moves).then_some(m.saturating_add(1)),
-        Way::Backward => (Code(m).place() > 0).then_some(m.saturating_sub(1)),
+        Way::Forward => (place_of(m) + 1 < moves).then_some(m.saturating_add(1)),
+        Way::Backward => (place_of(m) > 0).then_some(m.saturating_sub(1)),
     }
 }
 

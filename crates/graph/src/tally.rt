@@ -1,5 +1,5 @@
 // What was called and answered, counted.
-ghost use Rattle.std.specs.Prelude.{◌≡◌, Some};
+ghost use Rattle.std.specs.Prelude.{◌≡◌, ◌≤◌, Some};
 ghost use Rattle.graph.specs.Kinds.{kind_of, kind_word};
 
 use runs::calls::{Answer, Ask, Outcome};
@@ -115,9 +115,11 @@ impl Tally {
         }
     }
 
-    // How often this kind was called.
-    pub fn calls_of(&self, kind: Kind) -> u64 {
-        self.calls[kind as usize].made
+    // How often the kind with this number was called: 0 where there is no such kind.
+    pub fn calls_of(&self, kind: usize) -> u64
+        ensures none { 8 ≤ kind → result ≡ 0 }
+    {
+        self.calls.get(kind).map_or(0, |calls| calls.made)
     }
 
     // All rounds of all questions.

@@ -12,7 +12,6 @@ use graph::graph::Limits;
 use playing::{Fault, History, Record, on_board};
 use std::{env, io};
 use told::{Asked, Told, rounds_of};
-use words::aisles::Aisle;
 use words::kinds::{StoreKind, TableKind};
 
 // How many calls each board gets, and where the random numbers begin, unless the arguments say otherwise.
@@ -48,7 +47,7 @@ const STORES: [StoreKind; 2] = [StoreKind::Loose, StoreKind::Ordered];
 fn print_board(rt: &HostRuntime, history: History, design: Design) -> io::Result<()> {
     let History { limits, seed, .. } = history;
     let Design { table, store, .. } = design;
-    let Aisle { shuttles, moves } = limits.aisle;
+    let (shuttles, moves) = (limits.shuttles, limits.moves);
     let (waits, cells) = (limits.waits, limits.cells);
     println!(rt; "seed {seed}")?;
     println!(rt; "{table} {store} {shuttles} {moves} {waits} {cells}")
@@ -126,7 +125,7 @@ fn run(rt: &HostRuntime) -> anyhow::Result<()> {
     let mut record = Record::new(rt.alloc());
     for (shuttles, moves, waits) in SHAPES {
         let whole = History {
-            limits: Limits::whole(Aisle::new(shuttles, moves), waits),
+            limits: Limits::whole(shuttles, moves, waits),
             seed,
             steps: steps as usize,
         };

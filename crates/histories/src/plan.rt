@@ -3,7 +3,6 @@ use graph::graph::{Limits, code};
 use graph::random::Random;
 use runs::calls::Ask;
 use stores::wait::Wait;
-use words::moves::Code;
 
 // How many waits are remembered, to be removed.
 const MEMORY: usize = 64;
@@ -31,16 +30,16 @@ impl Plan {
 
     // A move of the board.
     fn right_move(&mut self) -> u16 {
-        let shuttle = self.random.below(self.limits.aisle.shuttles);
-        code(shuttle, self.random.below(self.limits.aisle.moves))
+        let shuttle = self.random.below(self.limits.shuttles);
+        code(shuttle, self.random.below(self.limits.moves))
     }
 
     // A move of the board, or now and then a code just off it, or any code.
     fn any_move(&mut self) -> u16 {
         match self.random.below(32) {
             0 => self.random.below(65535),
-            1 => code(self.limits.aisle.shuttles, 0),
-            2 => code(0, self.limits.aisle.moves),
+            1 => code(self.limits.shuttles, 0),
+            2 => code(0, self.limits.moves),
             _ => self.right_move(),
         }
     }
@@ -49,17 +48,16 @@ impl Plan {
     fn any_shuttle(&mut self) -> u16 {
         match self.random.below(24) {
             0 => self.random.below(65535),
-            1 => self.limits.aisle.shuttles,
-            _ => self.random.below(self.limits.aisle.shuttles),
+            1 => self.limits.shuttles,
+            _ => self.random.below(self.limits.shuttles),
         }
     }
 
     // A move not far behind u, on another shuttle, if there is one.
     fn near(&mut self, u: u16) -> u16 {
-        let others = self.limits.aisle.shuttles.saturating_sub(1);
-        let shuttle = (Code(u).shuttle() + self.random.below(others) % 16 + 1)
-            % self.limits.aisle.shuttles.max(1);
-        let place = (Code(u).place() + self.random.below(4)) % self.limits.aisle.moves.max(1);
+        let others = self.limits.shuttles.saturating_sub(1);
+        let shuttle = (u / 4096 + self.random.below(others) % 16 + 1) % self.limits.shuttles.max(1);
+        let place = (u % 4096 + self.random.below(4)) % self.limits.moves.max(1);
         code(shuttle, place)
     }
 

@@ -24,7 +24,7 @@ impl History {
     // A board of these kinds for it.
     pub fn design(self, table: TableKind, store: StoreKind) -> Design {
         Design {
-            aisle: self.limits.aisle,
+            aisle: Aisle::new(self.limits.shuttles, self.limits.moves),
             table,
             store,
             cells: self.limits.cells as usize,
@@ -54,7 +54,7 @@ impl Record {
         Record {
             tally: Tally::new(),
             boards: 0,
-            limits: Limits::whole(Aisle::new(0, 0), 0),
+            limits: Limits::whole(0, 0, 0),
             rounds: Vec::new(heap),
         }
     }

@@ -79,7 +79,7 @@ fn front(slice: &mut [u16], length: usize) -> &mut [u16] {
 
 // How many moves there are.
 fn moves_of(limits: Limits) -> usize {
-    limits.aisle.shuttles as usize * limits.aisle.moves as usize
+    limits.shuttles as usize * limits.moves as usize
 }
 
 impl Side {
@@ -117,7 +117,7 @@ impl Side {
         if without_rounds(board) != graph {
             return Some(What::Outcomes);
         }
-        if rounds_of(board).is_some_and(|rounds| rounds >= self.limits.aisle.shuttles as u32) {
+        if rounds_of(board).is_some_and(|rounds| rounds >= self.limits.shuttles as u32) {
             return Some(What::Rounds(None));
         }
         differing(self.boards.as_slice(), self.graphs.as_slice())
