@@ -4,3 +4,6 @@
 pub mod filling;
 mod ready;
 pub mod testing;
+
+pub use filling::{list, push};
+pub use testing::test;
