@@ -12,7 +12,7 @@ use Rattle.tables.specs.Meaning.{one, filled_of, with_cell, full_meaning, Small,
 use Rattle.tables.specs.Answers.{allowed, valued, sizable, put_answer, put_after, clear_after, cell_answer, least_answer, last_answer}
 use Rattle.tables.specs.Checked.{Inside, inside_from}
 use Rattle.tables.specs.Filled.{filled_le}
-use Rattle.tables.specs.Plain.{decoded, encoded, wiped_front}
+use Rattle.tables.specs.Plain.{decoded, encoded, buffer_check, wiped_front}
 use Rattle.tables.proofs.Allowed.{allowed_from, allowed_or, value_from, sizable_small}
 use Rattle.tables.proofs.Counting.{same_or, set_cell, filled_set, filled_ge, filled_none, room_full}
 use Rattle.tables.proofs.Plains.{Fit, decoded_encoded}
@@ -315,3 +315,13 @@ module _ (k n : ℕ) (cs : List ℕ) where
 pub made_leaves : (r : Result Unit Refusal) (n : ℕ) → leaves_of (if_done r 1 n) ≡ if_done r 1 (leaves_of n)
 made_leaves (Ok u) n = refl
 made_leaves (Err e) n = one_leaf
+
+-- what is made over a lent buffer of these sizes, whatever they are called
+pub made_over :
+    (k n needed s m l u f : ℕ) (cs new : List ℕ) (r : Result Unit Refusal)
+    → r ≡ buffer_check k n needed (length cs) → needed ≡ numbers_of k n
+    → s ≡ if_done r 1 k → m ≡ if_done r 1 n → l ≡ leaves_of m → u ≡ if_done r 0 needed → f ≡ 0 → new ≡ wiped_front (if_done r 0 needed) cs
+    → Sound s m l u f new
+unfolding full_check
+made_over k n needed s m l u f cs new r e en es em el eu ef ec =
+    rw (es, el, em, eu, ef, ec, en, made_leaves r n) (made_sound k n cs r (e ∙ ap (λ x. buffer_check k n x (length cs)) en))

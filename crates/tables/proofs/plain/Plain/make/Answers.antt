@@ -7,8 +7,7 @@ pub invariant_of-result : goal.invariant_of-result
 unfolding plain_check
 invariant_of-result c =
     let h = c.over.ensures in
-    let a = c.args.aisle in
-    simp (h.shuttles, h.moves, h.used, h.filled, h.numbers, c.numbers_of.ensures) (owed (made_sound a.shuttles a.moves c.args.cells.now _ refl))
+    simp (h.shuttles, h.moves, h.used, h.filled, h.numbers, c.numbers_of.ensures) (owed (made_sound _ _ c.args.cells.now _ refl))
 
 pub returns : goal.returns
 unfolding plain_check
